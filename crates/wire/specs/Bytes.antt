@@ -1,6 +1,11 @@
 -- Numbers as bytes, the lowest byte first.
 use mathlib.Core.List.{List, [], _∷_}
-use Prim.Native.Nat.{ℕ, zero, suc, _+_, _*_, _/_, _%_}
+use Prim.Native.Nat.{ℕ, zero, suc, _+_, _*_, _/_, _%_, _<_}
+use Rattle.std.specs.shelf.Lists.{All}
+
+-- each number of the list is a byte
+abbrev pub Octets : List ℕ → Type 0
+Octets bs = All (λ b. b < 256) bs
 
 -- the lowest k bytes of n
 abbrev pub little : ℕ → ℕ → List ℕ

@@ -1,2 +1,6 @@
 pub mod Bytes
-pub mod Records
+pub mod Faults
+pub mod Format
+pub mod Reading
+pub mod Writing
+pub mod Laws

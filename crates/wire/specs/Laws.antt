@@ -1,0 +1,2 @@
+-- Reading and writing are each other's inverse.
+use mathlib.Core.Path.{_≡_}
