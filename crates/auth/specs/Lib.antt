@@ -1,0 +1,4 @@
+pub mod Lists
+pub mod Made
+pub mod Rosters
+pub mod Tables

@@ -1,0 +1,9 @@
+// Who takes part: the roster of the nodes.
+mod roster;
+mod rosters;
+#[cfg(test)]
+mod tests;
+
+pub use roster::Roster;
+pub use roster::RosterFault;
+pub use roster::RosterFaultDebug;

@@ -1,0 +1,25 @@
+ghost use mathlib.Core.Path.{_≡_};
+ghost use mathlib.Core.Bool.{false};
+ghost use Prim.Native.Nat.{ℕ, _<_, _≤_};
+ghost use lib.ListN.{length, getD};
+
+// The nodes of a cluster, numbered from 0, the number of faulty ones that a protocol is to bear, and which are faulty.
+// Those may be more than the bound.
+#[derive(Clone, Copy)]
+pub struct Roster {
+    pub(crate) nodes: u8,
+    pub(crate) bound: u8,
+    pub(crate) faulty: [bool; 16],
+    ghost inhabited: { 1 ≤ nodes },
+    ghost placed: { nodes ≤ 16 },
+    ghost bounded: { bound < nodes },
+    ghost flagged: { length faulty ≡ 16 },
+    ghost absent: { (i : ℕ) → nodes ≤ i → getD faulty i false ≡ false },
+}
+
+// What no roster is made from.
+#[derive(Clone, Copy, PartialEq, Eq, Debug)]
+pub enum RosterFault {
+    // no node or more than 16, a bound that is not below their number, or a faulty node that is none of them
+    OutOfBounds,
+}
