@@ -40,8 +40,8 @@ module _ (nodes bound : ℕ) (listed : List ℕ) (i : ℕ) (flags : List Bool) (
       (λ n. let other : getD (set flags node true) k false ≡ getD flags k false = getD-set-other flags node k true false (λ p. n (sym p)) in grind (arith, tells))
       (cases-eq node k)
 
-  pub flagged-more : i < length listed → getD listed i 0 < nodes → nodes ≤ 16 → Flagged nodes listed (i + 1) (set flags (getD listed i 0) true)
-  flagged-more h l most = record {
+  pub flagged-more : i < length listed → getD listed i 0 < nodes → Flagged nodes listed (i + 1) (set flags (getD listed i 0) true)
+  flagged-more h l = record {
     places = length-set flags _ true ∙ so-far .places;
     bounds = let e = next-bounds h in grind (arith, tells);
     flag = flag-set h;
