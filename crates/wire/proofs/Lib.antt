@@ -1,3 +1,5 @@
 pub mod ByteLaws
+pub mod FileLaws
 pub mod RecordLaws
 pub mod SignatureLaws
+pub mod TableLaws

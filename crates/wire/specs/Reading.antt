@@ -137,9 +137,13 @@ messages-within (suc turns) room offset bytes =
 abbrev pub messages-at : ℕ → ℕ → List ℕ → Result (List Message) Refusal
 messages-at room offset bytes = messages-within (length bytes) room offset bytes
 
+-- how many messages are taken into a table of so many places
+abbrev pub room : ℕ → ℕ
+room places = min places 128
+
 -- the messages of a file, for a table of so many places
 unfoldable pub reading : List ℕ → ℕ → Result (List Message) Refusal
-reading file places = cond (ltb 32768 (length file)) (Err (refused 4 32768 layer.File)) (messages-at (min 128 places) 0 file)
+reading file places = cond (ltb 32768 (length file)) (Err (refused 4 32768 layer.File)) (messages-at (room places) 0 file)
 
 -- what the file layer's answer says: how many messages were read
 abbrev pub file-told : Result ℕ FileFault → Result ℕ Refusal
@@ -149,6 +153,11 @@ file-told (Err fault) = Err (file-refusal fault)
 abbrev pub counted : ℕ → Result (List Message) Refusal → Result ℕ Refusal
 counted before (Ok ms) = Ok (before + length ms)
 counted before (Err refusal) = Err refusal
+
+-- nothing was refused
+abbrev pub Reads : Result (List Message) Refusal → Type 0
+Reads (Ok ms) = Unit {0}
+Reads (Err refusal) = ⊥
 
 -- the table afterwards: the messages first, the later places as they were; all of it as it was on a refusal
 abbrev pub filled : List Message → Result (List Message) Refusal → List Message

@@ -2,6 +2,7 @@
 mod entries;
 mod entry;
 mod fault;
+mod file_layer;
 mod message;
 mod message_layer;
 mod record;
@@ -19,6 +20,9 @@ pub use fault::MessageFaultFromRecordFault;
 pub use fault::RecordFault;
 pub use fault::Refusal;
 pub use fault::ShortBuffer;
+pub use file_layer::MAX_FILE;
+pub use file_layer::MAX_MESSAGES;
+pub use file_layer::read_messages;
 pub use message::Message;
 pub use message::Signature;
 pub use record::Record;
