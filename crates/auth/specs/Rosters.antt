@@ -1,5 +1,5 @@
 -- Who takes part in a broadcast, and which rosters are made.
-use mathlib.Core.Bool.{Bool, true, false, cond, not, _&&_}
+use mathlib.Core.Bool.{Bool, false, cond, not, _&&_}
 use mathlib.Core.List.{List}
 use Prim.Native.Nat.{ℕ}
 use lib.Dec.{leb, ltb}
@@ -20,8 +20,8 @@ honest r i = ltb i (r .nodes) && not (getD (r .faulty) i false)
 abbrev pub faulty-node : Roster → ℕ → Bool
 faulty-node r i = ltb i (r .nodes) && getD (r .faulty) i false
 
--- what a roster says: how many nodes, the bound, and for each of the sixteen places whether a faulty node has it
-pub record Told : Type 0 where
+-- a roster's parts: the number of nodes, the bound, and for each of the sixteen places whether a faulty node has it
+pub record Parts : Type 0 where
   pub nodes : ℕ
   pub bound : ℕ
   pub faulty : List Bool
@@ -29,8 +29,8 @@ pub record Told : Type 0 where
 abbrev pub fault-number : RosterFault → ℕ
 fault-number OutOfBounds = 6
 
--- an answer: what the roster says, or the refusal's number
-abbrev pub roster-told : Result Roster RosterFault → Result Told ℕ
+-- an answer as it is told: the roster's parts, or the refusal's number
+abbrev pub roster-told : Result Roster RosterFault → Result Parts ℕ
 roster-told (Ok r) = Ok (record { nodes = r .nodes; bound = r .bound; faulty = r .faulty })
 roster-told (Err f) = Err (fault-number f)
 
@@ -38,7 +38,7 @@ roster-told (Err f) = Err (fault-number f)
 abbrev pub in-bounds : ℕ → ℕ → List ℕ → Bool
 in-bounds nodes bound faulty = leb 1 nodes && leb nodes 16 && ltb bound nodes && all (λ i. ltb i nodes) faulty
 
--- the roster of which the listed nodes are faulty
-abbrev pub roster-from : ℕ → ℕ → List ℕ → Result Told ℕ
+-- the roster of which the listed nodes are faulty; out of bounds, the refusal
+abbrev pub roster-from : ℕ → ℕ → List ℕ → Result Parts ℕ
 roster-from nodes bound faulty =
     cond (in-bounds nodes bound faulty) (Ok (record { nodes = nodes; bound = bound; faulty = table (has faulty) })) (Err 6)

@@ -3,13 +3,14 @@ ghost use mathlib.Core.Bool.{false};
 ghost use Prim.Native.Nat.{ℕ, _<_, _≤_};
 ghost use lib.ListN.{length, getD};
 
-// The nodes of a cluster, numbered from 0, the number of faulty ones that a protocol is to bear, and which are faulty.
-// Those may be more than the bound.
+// The nodes of a cluster, numbered from 0, how many faulty ones a protocol is to withstand, and which are faulty.
+// There may be more faulty nodes than the bound. The other nodes are honest.
 #[derive(Clone, Copy)]
 pub struct Roster {
     pub(crate) nodes: u8,
     pub(crate) bound: u8,
     pub(crate) faulty: [bool; 16],
+    // 1 to 16 nodes, a bound below their number, a flag for each of sixteen places, and none set where no node is
     ghost inhabited: { 1 ≤ nodes },
     ghost placed: { nodes ≤ 16 },
     ghost bounded: { bound < nodes },

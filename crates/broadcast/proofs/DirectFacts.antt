@@ -13,20 +13,20 @@ use Rattle.auth.specs.Rosters.{honest}
 use Rattle.auth.specs.Tables.{length-table, at-table, default-table}
 use Rattle.wire.specs.declared.message.Message.{Message}
 use Rattle.broadcast.specs.Instances.{Instance}
-use Rattle.broadcast.specs.Direct.{told, heard, direct-outcome, direct-outcomes}
+use Rattle.broadcast.specs.Direct.{from-leader, first-value, direct-outcomes}
 
 -- no message is delivered from a leader that is no node
-heard-leaderless : (roster : Roster) (leader node : ℕ) (ms : List Message) → roster .nodes ≤ leader → heard roster leader node ms ≡ 0
-heard-leaderless roster leader node [] past = refl
-heard-leaderless roster leader node (m ∷ ms) past = let ih = heard-leaderless roster leader node ms past in grind (arith, tells)
+value-leaderless : (roster : Roster) (leader node : ℕ) (ms : List Message) → roster .nodes ≤ leader → first-value roster leader node ms ≡ 0
+value-leaderless roster leader node [] past = refl
+value-leaderless roster leader node (m ∷ ms) past = let ih = value-leaderless roster leader node ms past in grind (arith, tells)
 
--- the messages from place i on, by whether the first of them tells the node a value
+-- the messages from place i on, by whether the first of them is one from the leader
 module _ (roster : Roster) (leader node : ℕ) (ms : List Message) (i : ℕ) (none : Message) (h : i < length ms) where
-  pub heard-here : true ≡ told roster leader node (getD ms i none) → heard roster leader node (drop i ms) ≡ getD ms i none .value
-  heard-here t = at-drop-more (heard roster leader node) ms i none h ∙ cond-true _ _ _ (sym t)
+  pub value-here : true ≡ from-leader roster leader node (getD ms i none) → first-value roster leader node (drop i ms) ≡ getD ms i none .value
+  value-here t = at-drop-more (first-value roster leader node) ms i none h ∙ cond-true _ _ _ (sym t)
 
-  pub heard-later : false ≡ told roster leader node (getD ms i none) → heard roster leader node (drop i ms) ≡ heard roster leader node (drop (i + 1) ms)
-  heard-later t = at-drop-more (heard roster leader node) ms i none h ∙ cond-false _ _ _ (sym t)
+  pub value-later : false ≡ from-leader roster leader node (getD ms i none) → first-value roster leader node (drop i ms) ≡ first-value roster leader node (drop (i + 1) ms)
+  value-later t = at-drop-more (first-value roster leader node) ms i none h ∙ cond-false _ _ _ (sym t)
 
 module _ (i : Instance) where
   pub places : length (direct-outcomes i) ≡ 16
@@ -39,7 +39,7 @@ module _ (i : Instance) where
 
   pub leaderless : i .roster .nodes ≤ i .leader → (node : ℕ) → getD (direct-outcomes i) node 0 ≡ 0
   unfolding direct-outcomes
-  leaderless past node = default-table _ node 0 (let none = heard-leaderless (i .roster) (i .leader) node (i .injected) past in grind (arith, tells))
+  leaderless past node = default-table _ node 0 (let none = value-leaderless (i .roster) (i .leader) node (i .injected) past in grind (arith, tells))
 
   pub valid : honest (i .roster) (i .leader) ≡ true → (node : ℕ) → honest (i .roster) node ≡ true → getD (direct-outcomes i) node 0 ≡ i .proposal
   unfolding direct-outcomes

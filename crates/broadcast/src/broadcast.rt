@@ -8,15 +8,16 @@ ghost use Rattle.broadcast.specs.Instances.{Instance, instance};
 use auth::Roster;
 use wire::Message;
 
-// A way to tell every node the leader's proposal, whatever the faulty nodes send.
-// State and instance fix the outcomes, and whether the condition holds under which the honest nodes agree.
+// A protocol that brings the leader's proposal to the nodes, whatever the faulty ones send. It never refuses.
+// Its state and the instance fix the outcomes and the condition.
 pub trait Broadcast {
     // the value that each of the sixteen places ends with
     ghost outcomes: { Self → Instance → List ℕ };
 
+    // whether the honest nodes are sure to agree
     ghost condition: { Self → Instance → Bool };
 
-    // what a broadcast may leave of itself
+    // what the instance may leave of the state
     ghost leaves: { Self → Instance → Self → Type 0 };
 
     // sixteen outcomes
@@ -34,7 +35,14 @@ pub trait Broadcast {
     // and with an honest leader it is the proposal
     law validity: { (b : Self) (i : Instance) → condition b i ≡ true → honest (i .roster) (i .leader) ≡ true → (node : ℕ) → honest (i .roster) node ≡ true → getD (outcomes b i) node 0 ≡ i .proposal };
 
-    fn broadcast(&mut self, roster: &Roster, turn: u8, leader: u8, proposal: u64, messages: &[Message]) -> [u64; 16]
-        ensures told { λ r. ⌜ r ≡ outcomes (now (self .entry)) (instance (now (roster .entry)) turn leader proposal (now (messages .entry))) ⌝ }
-        ensures left { λ r. ⌜ leaves (now (self .entry)) (instance (now (roster .entry)) turn leader proposal (now (messages .entry))) (now (self .exit)) ⌝ };
+    fn broadcast(
+        &mut self,
+        roster: &Roster,
+        turn: u8,
+        leader: u8,
+        proposal: u64,
+        messages: &[Message],
+    ) -> [u64; 16]
+        ensures answer { λ r. ⌜ r ≡ outcomes (now (self .entry)) (instance (now (roster .entry)) turn leader proposal (now (messages .entry))) ⌝ }
+        ensures after { λ _. ⌜ leaves (now (self .entry)) (instance (now (roster .entry)) turn leader proposal (now (messages .entry))) (now (self .exit)) ⌝ };
 }

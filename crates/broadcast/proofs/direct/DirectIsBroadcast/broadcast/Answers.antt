@@ -7,6 +7,6 @@ use Rattle.broadcast.proofs.direct.DirectIsBroadcast.broadcast.Needs as need
 pub returns : need.returns
 unfolding direct-outcomes
 returns c = record {
-  told = is-table _ (c .loop-node .outcomes) 0 (c .loop-node .inv .0) (λ k h. c .loop-node .inv .1 k (omega arith));
-  left = refl;
+  answer = is-table _ (c .loop-node .outcomes) 0 (c .loop-node .inv .0) (λ k h. c .loop-node .inv .1 k (omega arith));
+  after = refl;
 }
