@@ -3,3 +3,4 @@ pub mod FileLaws
 pub mod RecordLaws
 pub mod SignatureLaws
 pub mod TableLaws
+pub mod WritingLaws

@@ -1,4 +1,5 @@
 // Messages between nodes, and the message file: a row of records, read in three layers and written one by one.
+mod chain;
 mod entries;
 mod entry;
 mod fault;
@@ -9,6 +10,7 @@ mod record;
 mod record_layer;
 mod records;
 mod refusal;
+mod writing;
 
 pub use entries::Entries;
 pub use entry::Entry;
@@ -23,7 +25,9 @@ pub use fault::ShortBuffer;
 pub use file_layer::MAX_FILE;
 pub use file_layer::MAX_MESSAGES;
 pub use file_layer::read_messages;
+pub use message::MAX_SIGNATURES;
 pub use message::Message;
 pub use message::Signature;
 pub use record::Record;
 pub use records::Records;
+pub use writing::write_message;

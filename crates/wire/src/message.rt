@@ -1,3 +1,6 @@
+// The most signatures that a message has.
+pub const MAX_SIGNATURES: usize = 16;
+
 // A node's signature: the node that is named, and the tag that it is said to have made.
 #[derive(Clone, Copy, PartialEq, Eq, Debug)]
 pub struct Signature {
@@ -14,5 +17,5 @@ pub struct Message {
     pub receiver: u8,
     pub count: u8,
     pub value: u64,
-    pub signatures: [Signature; 16],
+    pub signatures: [Signature; MAX_SIGNATURES],
 }

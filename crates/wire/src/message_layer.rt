@@ -9,6 +9,7 @@ use crate::entries::Entries;
 use crate::entry::Entry;
 use crate::fault::MessageFault;
 use crate::fault::MessageFaultFromRecordFault;
+use crate::message::MAX_SIGNATURES;
 use crate::message::Message;
 use crate::message::Signature;
 use crate::record::Record;
@@ -49,12 +50,12 @@ fn signature_at(bytes: &[u8], at: usize) -> Signature
 }
 
 // The signatures of a body, and blanks after them.
-fn signatures_in(body: &[u8], count: usize) -> [Signature; 16]
+fn signatures_in(body: &[u8], count: usize) -> [Signature; MAX_SIGNATURES]
     requires few { ⌜ count ≤ 16 ⌝ }
     requires whole { ⌜ length (now body) ≡ 12 + 9 * count ⌝ }
     ensures { λ r. ⌜ r ≡ signatures-from count (drop 12 (now (body .entry))) ++ replicate (16 - count) blank ⌝ }
 {
-    let mut signatures = [BLANK; 16];
+    let mut signatures = [BLANK; MAX_SIGNATURES];
     for i in 0..count {
         signatures[i] = signature_at(body, FIXED + SIGNATURE * i);
     }
@@ -68,7 +69,7 @@ fn is_well_formed(body: &[u8]) -> bool
         return false;
     }
     let count = usize::from(body[3]);
-    count <= 16 && body.len() == FIXED + SIGNATURE * count
+    count <= MAX_SIGNATURES && body.len() == FIXED + SIGNATURE * count
 }
 
 fn message_in(body: &[u8]) -> Message
