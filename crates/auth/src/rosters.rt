@@ -1,5 +1,6 @@
 ghost use mathlib.Core.Path.{_≡_};
 ghost use Rattle.auth.specs.Rosters.{honest, faulty-node, roster-told, roster-from, fault-number};
+use crate::roster::MAX_NODES;
 use crate::roster::Roster;
 use crate::roster::RosterFault;
 
@@ -8,10 +9,10 @@ impl Roster {
     pub fn new(nodes: u8, bound: u8, faulty: &[u8]) -> Result<Roster, RosterFault>
         ensures answer { λ r. ⌜ roster-told r ≡ roster-from nodes bound (now (faulty .entry)) ⌝ }
     {
-        if nodes == 0 || nodes > 16 || bound >= nodes {
+        if nodes == 0 || nodes as usize > MAX_NODES || bound >= nodes {
             return Err(RosterFault::OutOfBounds);
         }
-        let mut flags = [false; 16];
+        let mut flags = [false; MAX_NODES];
         for node in faulty {
             if *node >= nodes {
                 return Err(RosterFault::OutOfBounds);

@@ -5,6 +5,7 @@ ghost use Prim.Native.Nat.{ℕ, _≤_};
 ghost use lib.ListN.{length, getD};
 ghost use Rattle.auth.specs.Rosters.{honest};
 ghost use Rattle.broadcast.specs.Instances.{Instance, instance};
+use auth::MAX_NODES;
 use auth::Roster;
 use wire::Message;
 
@@ -42,7 +43,7 @@ pub trait Broadcast {
         leader: u8,
         proposal: u64,
         messages: &[Message],
-    ) -> [u64; 16]
+    ) -> [u64; MAX_NODES]
         ensures answer { λ r. ⌜ r ≡ outcomes (now (self .entry)) (instance (now (roster .entry)) turn leader proposal (now (messages .entry))) ⌝ }
         ensures after { λ _. ⌜ leaves (now (self .entry)) (instance (now (roster .entry)) turn leader proposal (now (messages .entry))) (now (self .exit)) ⌝ };
 }

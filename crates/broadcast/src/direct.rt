@@ -3,6 +3,7 @@ ghost use Rattle.auth.specs.Rosters.{honest};
 ghost use Rattle.broadcast.specs.Direct.{from-leader, first-value, direct-outcome, direct-outcomes};
 use crate::broadcast::Broadcast;
 use crate::delivery::is_delivered;
+use auth::MAX_NODES;
 use auth::Roster;
 use wire::Message;
 
@@ -25,9 +26,9 @@ pub impl Broadcast for DirectBroadcast as DirectIsBroadcast {
         leader: u8,
         proposal: u64,
         messages: &[Message],
-    ) -> [u64; 16] {
-        let mut outcomes = [0; 16];
-        for node in 0..16u8 {
+    ) -> [u64; MAX_NODES] {
+        let mut outcomes = [0; MAX_NODES];
+        for node in 0..MAX_NODES as u8 {
             outcomes[node as usize] = outcome(roster, leader, proposal, messages, node);
         }
         outcomes
