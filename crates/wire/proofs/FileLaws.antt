@@ -15,11 +15,12 @@ use Rattle.std.proofs.shelf.Lists.{drop-drop, length-drop}
 use Rattle.std.proofs.shelf.Tests.{cases-lt, cond-true, cond-false, eq-eqb, ne-eqb, lt-ltb, le-ltb}
 use Rattle.std.proofs.shelf.Ways.{tells}
 use Rattle.wire.specs.declared.fault.Layer.the-variants as layer
+use Rattle.wire.specs.declared.fault.MessageFault.{MessageFault}
 use Rattle.wire.specs.declared.fault.Refusal.{Refusal}
 use Rattle.wire.specs.declared.message.Message.{Message}
 use Rattle.wire.specs.Faults.{refused}
 use Rattle.wire.specs.Format.{Item, message, comment}
-use Rattle.wire.specs.Reading.{record-at, record-length, bad-length, parsed, entry-at, onward, with-first, messages-within, messages-at, records-left, counted, filled, entry-content, Reads, room, reading}
+use Rattle.wire.specs.Reading.{record-at, record-length, bad-length, parsed, entry-at, onward, with-first, messages-within, messages-at, records-left, counted, filled, passed, entry-told, entry-content, Reads, room, reading}
 use Rattle.wire.specs.declared.entry.Entry.{Entry}
 use Rattle.wire.specs.declared.records.Records.{Records}
 use Rattle.wire.proofs.RecordLaws.{record-none}
@@ -95,6 +96,9 @@ pub record Went (file : List ℕ) (s s′ : Records) (e : Entry) : Type 0 where
   pub read : Ok (Some (entry-content e)) ≡ entry-at (s .offset) (records-left s)
   pub on : s′ .offset ≡ s .offset + record-length (records-left s)
   pub same : s′ .file .now ≡ s .file .now
+
+pub went-by : (file : List ℕ) (s s′ : Records) (e : Entry) (r : Result (Option Entry) MessageFault) → s .file .now ≡ file → r ≡ Ok (Some e) → entry-told r ≡ entry-at (s .offset) (records-left s) → s′ .offset ≡ passed (s .offset) (records-left s) r → s′ .file .now ≡ s .file .now → Went file s s′ e
+went-by file s s′ e r of was answer on same = record { of = of; read = sym (ap entry-told was) ∙ answer; on = on ∙ ap (passed (s .offset) (records-left s)) was; same = same }
 
 module _ {file : List ℕ} {s s′ : Records} {e : Entry} (went : Went file s s′ e) where
   lies : Lies (records-left s)

@@ -1,6 +1,8 @@
 pub mod ByteLaws
 pub mod FileLaws
+pub mod FormatLaws
 pub mod RecordLaws
 pub mod SignatureLaws
 pub mod TableLaws
+pub mod WholeFileLaws
 pub mod WritingLaws

@@ -1,2 +1,41 @@
--- Reading and writing are each other's inverse.
+-- Reading and writing undo each other: laws over whole files, with no word of how a file is read.
+use mathlib.Core.List.{List, [], _∷_, map}
 use mathlib.Core.Path.{_≡_}
+use Prim.Native.Nat.{ℕ, _^_, _<_, _≤_}
+use lib.ListN.{length, take}
+use Rattle.std.specs.declared.result.Result.{Result}
+use Rattle.std.specs.declared.result.Result.the-variants.{Ok}
+use Rattle.std.specs.shelf.Lists.{All}
+use Rattle.wire.specs.declared.fault.FileFault.{FileFault}
+use Rattle.wire.specs.declared.message.Message.{Message}
+use Rattle.wire.specs.Format.{Item, message, comment, chain, meaning, file-bytes}
+
+-- each field fits its bytes, as it does in every message that the code can hold
+pub record Sized (m : Message) : Type 0 where
+  pub round : m .round < 256
+  pub sender : m .sender < 256
+  pub receiver : m .receiver < 256
+  pub value : m .value < 2 ^ 64
+  pub signed : All (λ s. (s .signer < 256) × (s .tag < 2 ^ 64)) (chain m)
+
+-- a record can hold it: its length fits two bytes
+abbrev pub Writable : Item Message → Type 0
+Writable (message m) = Sized m
+Writable (comment text) = length text < 65532
+
+-- the messages among the items, in their order
+abbrev pub messages-of : List (Item Message) → List Message
+messages-of [] = []
+messages-of (message m ∷ items) = m ∷ messages-of items
+messages-of (comment text ∷ items) = messages-of items
+
+-- A file that is made of written messages and comments, and is not too large for reader or table,
+-- gives those messages in their order, each with the meaning that it had.
+abbrev pub WrittenIsRead : List ℕ → ℕ → Result ℕ FileFault → List Message → Type 0
+WrittenIsRead file places answer table =
+    (items : List (Item Message)) → All Writable items → file ≡ file-bytes items → length file ≤ 32768 → length (messages-of items) ≤ 128 → length (messages-of items) ≤ places →
+    (answer ≡ Ok (length (messages-of items))) × (map meaning (take (length (messages-of items)) table) ≡ map meaning (messages-of items))
+
+-- A file that is read is nothing but the messages that it gave, written again, with comments between them.
+abbrev pub ReadIsWritten : List ℕ → Result ℕ FileFault → List Message → Type 0
+ReadIsWritten file answer table = (count : ℕ) → answer ≡ Ok count → (items : List (Item Message)) × (file ≡ file-bytes items) × (messages-of items ≡ take count table)

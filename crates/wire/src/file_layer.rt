@@ -3,6 +3,7 @@ ghost use mathlib.Core.Bool.{true};
 ghost use Prim.Native.Nat.{ℕ};
 ghost use lib.ListN.{length};
 ghost use Rattle.std.specs.Results.{isOk};
+ghost use Rattle.wire.specs.Laws.{WrittenIsRead, ReadIsWritten};
 ghost use Rattle.wire.specs.Reading.{messages-at, room, reading, file-told, counted, filled, Reads};
 use crate::entries::Entries;
 use crate::entry::Entry;
@@ -12,6 +13,7 @@ use crate::message::Message;
 
 // The largest file, in bytes, and the most messages that one may have.
 pub const MAX_FILE: usize = 32_768;
+
 pub const MAX_MESSAGES: usize = 128;
 
 // How many messages the file has, once each record of it was looked at; at most `most`.
@@ -56,6 +58,8 @@ fn fill(file: &[u8], table: &mut [Message]) -> Result<(), FileFault>
 pub fn read_messages(file: &[u8], table: &mut [Message]) -> Result<usize, FileFault>
     ensures answer { λ r. ⌜ file-told r ≡ counted 0 (reading (now (file .entry)) (length (now (table .entry)))) ⌝ }
     ensures table { λ r. ⌜ now (table .exit) ≡ filled (now (table .entry)) (reading (now (file .entry)) (length (now (table .entry)))) ⌝ }
+    ensures written_is_read { λ r. ⌜ WrittenIsRead (now (file .entry)) (length (now (table .entry))) r (now (table .exit)) ⌝ }
+    ensures read_is_written { λ r. ⌜ ReadIsWritten (now (file .entry)) r (now (table .exit)) ⌝ }
 {
     if file.len() > MAX_FILE {
         return Err(FileFault::Capacity { offset: MAX_FILE });

@@ -116,7 +116,9 @@ impl<'a> Entries<'a> {
             Some(Record::Comment(text)) => Entry::Comment(text),
             Some(Record::Message(body)) => {
                 if !is_well_formed(body) {
-                    return Err(MessageFault::Length { offset: self.records.offset });
+                    return Err(MessageFault::Length {
+                        offset: self.records.offset,
+                    });
                 }
                 Entry::Message(message_in(body))
             }

@@ -11,6 +11,7 @@ use crate::message::Signature;
 
 // What a message's record has before its signatures, and what each signature takes.
 const FIXED: usize = 16;
+
 const SIGNATURE: usize = 9;
 
 // Copies bytes to a place of the buffer.
@@ -51,7 +52,18 @@ pub fn write_message(message: &Message, buffer: &mut [u8]) -> Result<usize, Shor
         return Err(ShortBuffer { needed: length });
     }
     put(buffer, 0, &(length as u16).to_le_bytes());
-    put(buffer, 2, &[1, 0, message.round, message.sender, message.receiver, chain.len() as u8]);
+    put(
+        buffer,
+        2,
+        &[
+            1,
+            0,
+            message.round,
+            message.sender,
+            message.receiver,
+            chain.len() as u8,
+        ],
+    );
     put(buffer, 8, &message.value.to_le_bytes());
     put_signatures(buffer, chain);
     Ok(length)

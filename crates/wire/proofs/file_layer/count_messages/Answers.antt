@@ -6,7 +6,7 @@ use lib.ListN.{drop}
 use Rattle.std.specs.declared.result.Result.the-variants.{Ok}
 use Rattle.std.proofs.shelf.Results.{err-from-errBy}
 use Rattle.wire.specs.Reading.{counted, messages-at, records-left, entry-told, entry-content, passed}
-use Rattle.wire.proofs.FileLaws.{Went, at-end, at-fault, at-full, counted-first, still-of, within, falls, past-comment, past-message, no-room}
+use Rattle.wire.proofs.FileLaws.{Went, went-by, at-end, at-fault, at-full, counted-first, still-of, within, falls, past-comment, past-message, no-room}
 use Rattle.wire.proofs.file_layer.count_messages.Needs as need
 use Rattle.wire.proofs.file_layer.count_messages.Needs.{In-Some, at·loop-entry-less, at·loop-entry-again, at·loop-entry-less-in-Message, at·loop-entry-again-in-Message, at·returns-then-count-most}
 
@@ -31,13 +31,8 @@ returns-in-rest c =
 -- what the call of `next` told of the reader, once it gave an entry
 went : (c : In-Some) → Went (c .args .file .now) (c .loop-entry .entries .records) (c .next .last .self .records) (c .in-Some .entry)
 went c =
-    let was = c .in-Continue-entry .was tt ∙ ap Ok (c .in-Some .is) in
-    record {
-      of = c .loop-entry .inv .0;
-      read = sym (ap entry-told was) ∙ c .next .ensures .answer;
-      on = c .next .ensures .moves-on ∙ ap (passed _ _) was;
-      same = c .next .ensures .same-file;
-    }
+    let told = c .next .ensures in
+    went-by _ _ _ _ _ (c .loop-entry .inv .0) (c .in-Continue-entry .was tt ∙ ap Ok (c .in-Some .is)) (told .answer) (told .moves-on) (told .same-file)
 
 pub loop-entry-less : need.loop-entry-less
 loop-entry-less c = falls (went (at·loop-entry-less c .In-Some)) (c .loop-entry .inv .2)

@@ -5,7 +5,7 @@ use native.Mathlib.Omega.{arith}
 use lib.ListN.{length, set, drop}
 use Rattle.std.specs.declared.result.Result.the-variants.{Ok}
 use Rattle.wire.specs.Reading.{messages-at, records-left, room, entry-told, entry-content, passed, filled, Reads}
-use Rattle.wire.proofs.FileLaws.{Went, at-end, at-fault, still-of, within, falls, past-comment, past-message, has-room}
+use Rattle.wire.proofs.FileLaws.{Went, went-by, at-end, at-fault, still-of, within, falls, past-comment, past-message, has-room}
 use Rattle.wire.proofs.TableLaws.{laid, laid-first, laid-all, few, reads-rest, at-most-more}
 use Rattle.wire.proofs.file_layer.fill.Needs as need
 use Rattle.wire.proofs.file_layer.fill.Needs.{In-Some, In-Message, at·In-Message, at·loop-entry-less, at·loop-entry-again, at·loop-entry-less-in-Message, at·loop-entry-again-in-Message}
@@ -26,13 +26,8 @@ returns-in-Break-entry c =
 
 went : (c : In-Some) → Went (c .args .file .now) (c .loop-entry .entries .records) (c .next .last .self .records) (c .in-Some .entry)
 went c =
-    let was = c .in-Continue-entry .was tt ∙ ap Ok (c .in-Some .is) in
-    record {
-      of = c .loop-entry .inv .0;
-      read = sym (ap entry-told was) ∙ c .next .ensures .answer;
-      on = c .next .ensures .moves-on ∙ ap (passed _ _) was;
-      same = c .next .ensures .same-file;
-    }
+    let told = c .next .ensures in
+    went-by _ _ _ _ _ (c .loop-entry .inv .0) (c .in-Continue-entry .was tt ∙ ap Ok (c .in-Some .is)) (told .answer) (told .moves-on) (told .same-file)
 
 pub loop-entry-less : need.loop-entry-less
 loop-entry-less c = falls (went (at·loop-entry-less c .In-Some)) (c .loop-entry .inv .2)

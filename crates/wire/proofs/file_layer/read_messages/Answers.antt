@@ -1,17 +1,33 @@
+use mathlib.Core.List.{List}
 use mathlib.Core.Path.{_≡_, refl, sym, ap, _∙_}
+use Prim.Native.Nat.{ℕ, _<_}
 use native.Mathlib.Omega.{arith}
-use lib.ListN.{length}
+use lib.ListN.{length, getD}
+use mir.Syntax.{w8}
+use mir.Val.{Fits}
+use Rattle.std.specs.declared.result.Result.{Result}
 use Rattle.std.specs.declared.result.Result.the-variants.{Ok, Err}
+use Rattle.std.proofs.shelf.Elements.{all-from-getD}
 use Rattle.std.proofs.shelf.Results.{err-from-errBy}
+use Rattle.wire.specs.declared.fault.FileFault.{FileFault}
+use Rattle.wire.specs.declared.message.Message.{Message}
+use Rattle.wire.specs.Bytes.{Octets}
 use Rattle.wire.specs.Reading.{reading, messages-at, room, counted, filled, file-told}
 use Rattle.wire.proofs.FileLaws.{reading-large, reading-small, filled-refused}
+use Rattle.wire.proofs.WholeFileLaws.{law-written-is-read, law-read-is-written}
 use Rattle.wire.proofs.file_layer.read_messages.Needs as need
+
+octets : (file : List ℕ) → ((i : ℕ) → Fits w8 (getD file i 0)) → Octets file
+octets file fits = all-from-getD (λ b. b < 256) file 0 (λ i _. fits i .fits)
 
 pub returns-then-file-gt-MAX-FILE : need.returns-then-file-gt-MAX-FILE
 returns-then-file-gt-MAX-FILE c =
+    let file = c .args .file .now in
     let table = c .args .table .now in
-    let large = reading-large (c .args .file .now) (length table) (c .if-file-gt-MAX-FILE .taken) in
-    record { answer = sym (ap (counted 0) large); table = sym (ap (filled table) large) }
+    let large = reading-large file (length table) (c .if-file-gt-MAX-FILE .taken) in
+    let told = sym (ap (counted 0) large) in
+    let left = sym (ap (filled table) large) in
+    record { answer = told; table = left; written-is-read = law-written-is-read file table _ _ told left; read-is-written = law-read-is-written file table _ _ told left (octets file (c .typed .file)) }
 
 pub returns-in-Break-count : need.returns-in-Break-count
 returns-in-Break-count c =
@@ -20,14 +36,15 @@ returns-in-Break-count c =
     let table = c .args .table .now in
     let small = reading-small file (length table) (c .if-file-gt-MAX-FILE .left) in
     let same = c .in-Break-count .ensures tt ∙ ap (λ n. counted 0 (messages-at n 0 file)) (c .min .ensures) ∙ sym (ap (counted 0) small) in
-    record { answer = rw (p .1, p .2) same; table = sym (filled-refused table (reading file (length table)) _ same) }
+    let told : file-told (c .from-residual .result) ≡ counted 0 (reading file (length table)) = rw (p .1, p .2) same in
+    let left = sym (filled-refused table (reading file (length table)) _ same) in
+    record { answer = told; table = left; written-is-read = law-written-is-read file table _ _ told left; read-is-written = law-read-is-written file table _ _ told left (octets file (c .typed .file)) }
 
 pub returns : need.returns
 returns c =
     let file = c .args .file .now in
     let table = c .args .table .now in
     let small = reading-small file (length table) (c .if-file-gt-MAX-FILE .left) in
-    record {
-      answer = c .in-Continue-count .ensures tt ∙ ap (λ n. counted 0 (messages-at n 0 file)) (c .min .ensures) ∙ sym (ap (counted 0) small);
-      table = c .fill .ensures .table ∙ sym (ap (filled table) small);
-    }
+    let told = c .in-Continue-count .ensures tt ∙ ap (λ n. counted 0 (messages-at n 0 file)) (c .min .ensures) ∙ sym (ap (counted 0) small) in
+    let left = c .fill .ensures .table ∙ sym (ap (filled table) small) in
+    record { answer = told; table = left; written-is-read = law-written-is-read file table _ _ told left; read-is-written = law-read-is-written file table _ _ told left (octets file (c .typed .file)) }
