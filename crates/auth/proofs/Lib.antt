@@ -1,1 +1,2 @@
 pub mod RosterFacts
+pub mod SameRosters

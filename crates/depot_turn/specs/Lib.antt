@@ -1,1 +1,3 @@
+pub mod Depot
+pub mod Texts
 pub mod Turns
