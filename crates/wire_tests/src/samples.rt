@@ -1,0 +1,92 @@
+use std::test::*;
+use wire::Layer;
+use wire::MAX_SIGNATURES;
+use wire::Message;
+use wire::Refusal;
+use wire::Signature;
+use wire::read_messages;
+
+// What a table holds before it is read into.
+pub const MARK: Message = Message {
+    round: 201,
+    sender: 202,
+    receiver: 203,
+    count: 204,
+    value: 205,
+    signatures: [Signature {
+        signer: 206,
+        tag: 207,
+    }; MAX_SIGNATURES],
+};
+
+// A message of which each byte is zero, with no signatures.
+pub const ZERO: Message = Message {
+    round: 0,
+    sender: 0,
+    receiver: 0,
+    count: 0,
+    value: 0,
+    signatures: [Signature { signer: 0, tag: 0 }; MAX_SIGNATURES],
+};
+
+pub fn same(left: &Message, right: &Message) -> Result<(), Fail> {
+    check_eq(left.round, right.round)?;
+    check_eq(left.sender, right.sender)?;
+    check_eq(left.receiver, right.receiver)?;
+    check_eq(left.count, right.count)?;
+    check_eq(left.value, right.value)?;
+    for (one, other) in left.signatures.iter().zip(right.signatures.iter()) {
+        check_eq(one.signer, other.signer)?;
+        check_eq(one.tag, other.tag)?;
+    }
+    Ok(())
+}
+
+pub fn unchanged(table: &[Message]) -> Result<(), Fail> {
+    for message in table {
+        same(message, &MARK)?;
+    }
+    Ok(())
+}
+
+pub fn reads(file: &[u8], table: &mut [Message], count: usize) -> Result<(), Fail> {
+    match read_messages(file, table) {
+        Ok(read) => check_eq(read, count),
+        Err(_) => Err(Fail::new("the file was refused")),
+    }
+}
+
+pub fn tells(refusal: Refusal, number: u8, offset: usize, layer: &str) -> Result<(), Fail> {
+    check_eq(refusal.number, number)?;
+    check_eq(refusal.offset, offset)?;
+    let told = match refusal.layer {
+        Layer::Record => "record",
+        Layer::Message => "message",
+        Layer::File => "file",
+    };
+    check_eq(told, layer)
+}
+
+// The table is marked before, and is to be as it was afterwards.
+pub fn refuses(
+    file: &[u8],
+    table: &mut [Message],
+    number: u8,
+    offset: usize,
+    layer: &str,
+) -> Result<(), Fail> {
+    match read_messages(file, table) {
+        Ok(_) => return Err(Fail::new("the file was read")),
+        Err(fault) => tells(fault.refusal(), number, offset, layer)?,
+    }
+    unchanged(table)
+}
+
+// Makes a row of messages with no signatures of a file of zeros; their rounds count them.
+pub fn put_messages(file: &mut [u8]) {
+    for i in 0..file.len() / 16 {
+        file[16 * i] = 16;
+        file[16 * i + 2] = 1;
+        file[16 * i + 4] = (i % 256) as u8;
+    }
+}
