@@ -29,6 +29,26 @@ pub const ZERO: Message = Message {
     signatures: [Signature { signer: 0, tag: 0 }; MAX_SIGNATURES],
 };
 
+// A message of which each field differs from the others, with one signature.
+pub fn distinct() -> Message {
+    let mut message = Message {
+        round: 21,
+        sender: 22,
+        receiver: 23,
+        count: 1,
+        value: 0x0807_0605_0403_0201,
+        ..ZERO
+    };
+    message.signatures[0] = Signature {
+        signer: 9,
+        tag: 0x1211_100f_0e0d_0c0b,
+    };
+    message
+}
+
+pub const DISTINCT_BYTES: &[u8; 25] =
+    b"\x19\0\x01\0\x15\x16\x17\x01\x01\x02\x03\x04\x05\x06\x07\x08\x09\x0b\x0c\x0d\x0e\x0f\x10\x11\x12";
+
 pub fn same(left: &Message, right: &Message) -> Result<(), Fail> {
     check_eq(left.round, right.round)?;
     check_eq(left.sender, right.sender)?;

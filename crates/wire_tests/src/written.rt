@@ -1,5 +1,7 @@
+use crate::samples::DISTINCT_BYTES;
 use crate::samples::MARK;
 use crate::samples::ZERO;
+use crate::samples::distinct;
 use crate::samples::reads;
 use crate::samples::same;
 use std::test::*;
@@ -45,53 +47,16 @@ fn lacks(message: &Message, buffer: &mut [u8], needed: usize) -> Result<(), Fail
 
 #[test]
 fn each_byte_of_a_message() -> Result<(), Fail> {
-    let mut message = Message {
-        round: 21,
-        sender: 22,
-        receiver: 23,
-        count: 1,
-        value: 0x0807_0605_0403_0201,
-        ..MARK
-    };
-    message.signatures[0] = Signature {
-        signer: 9,
-        tag: 0x1211_100f_0e0d_0c0b,
-    };
+    let mut message = distinct();
+    // what stands past the count says nothing
+    message.signatures[1] = Signature { signer: 1, tag: 1 };
     let mut buffer = [7; 27];
     writes(&message, &mut buffer, 25)?;
+    let bytes: &[u8] = DISTINCT_BYTES;
+    check_eq(&buffer[0..25], bytes)?;
     // what stands past the message is kept
-    check_eq(
-        buffer,
-        [
-            25,
-            0,
-            1,
-            0,
-            21,
-            22,
-            23,
-            1,
-            1,
-            2,
-            3,
-            4,
-            5,
-            6,
-            7,
-            8,
-            9,
-            11,
-            12,
-            13,
-            14,
-            15,
-            16,
-            17,
-            18,
-            7,
-            7,
-        ],
-    )
+    check_eq(buffer[25], 7)?;
+    check_eq(buffer[26], 7)
 }
 
 #[test]
