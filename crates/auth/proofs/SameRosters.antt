@@ -1,19 +1,17 @@
 -- Rosters with the same parts are the same.
 use mathlib.Core.Bool.{Bool, true, false}
 use mathlib.Core.HLevel.{isProp→PathP}
-use mathlib.Core.List.{List, []}
+use mathlib.Core.List.{List}
 use mathlib.Core.Path.{_≡_, PathP, ap, _∙_}
 use Prim.Native.Nat.{ℕ, _<_, _≤_}
 use denote.Struct.Props.{props}
 use lib.ListN.{length, getD}
-use Rattle.std.specs.declared.result.Result.{Result}
-use Rattle.std.specs.declared.result.Result.the-variants.{Ok, Err}
+use Rattle.std.specs.declared.result.Result.the-variants.{Ok}
 use Rattle.std.proofs.shelf.Tests.{cond-true}
 use Rattle.auth.specs.declared.roster.Roster.{Roster}
-use Rattle.auth.specs.declared.roster.RosterFault.{RosterFault}
 use Rattle.auth.specs.Lists.{has}
 use Rattle.auth.specs.Made.{roster}
-use Rattle.auth.specs.Rosters.{Parts, in-bounds, roster-told, roster-from}
+use Rattle.auth.specs.Rosters.{Parts, in-bounds, roster-answer, roster-from}
 use Rattle.auth.specs.Tables.{table}
 
 -- a fact that has one proof at most is the same at both ends
@@ -33,7 +31,7 @@ same-roster r s n b f = λ i. record {
 }
 
 -- what a call that was answered with a roster made
-pub made-roster : (nodes bound : ℕ) (faulty : List ℕ) (ok : in-bounds nodes bound faulty ≡ true) (r : Roster) → roster-told (Ok r) ≡ roster-from nodes bound faulty → r ≡ roster nodes bound faulty ok
+pub made-roster : (nodes bound : ℕ) (faulty : List ℕ) (ok : in-bounds nodes bound faulty ≡ true) (r : Roster) → roster-answer (Ok r) ≡ roster-from nodes bound faulty → r ≡ roster nodes bound faulty ok
 made-roster nodes bound faulty ok r e =
     let told = e ∙ cond-true (in-bounds nodes bound faulty) _ _ ok in
     let parts : _≡_ {A = Parts} (record { nodes = r .nodes; bound = r .bound; faulty = r .faulty }) (record { nodes = nodes; bound = bound; faulty = table (has faulty) }) = cc in

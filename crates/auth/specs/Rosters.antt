@@ -30,9 +30,9 @@ abbrev pub fault-number : RosterFault → ℕ
 fault-number OutOfBounds = 6
 
 -- an answer as it is told: the roster's parts, or the refusal's number
-abbrev pub roster-told : Result Roster RosterFault → Result Parts ℕ
-roster-told (Ok r) = Ok (record { nodes = r .nodes; bound = r .bound; faulty = r .faulty })
-roster-told (Err f) = Err (fault-number f)
+abbrev pub roster-answer : Result Roster RosterFault → Result Parts ℕ
+roster-answer (Ok r) = Ok (record { nodes = r .nodes; bound = r .bound; faulty = r .faulty })
+roster-answer (Err f) = Err (fault-number f)
 
 -- the numbers that make a roster: 1 to 16 nodes, a bound below that, and faulty nodes that are among them
 abbrev pub in-bounds : ℕ → ℕ → List ℕ → Bool

@@ -1,5 +1,5 @@
 ghost use mathlib.Core.Path.{_≡_};
-ghost use Rattle.auth.specs.Rosters.{honest, faulty-node, roster-told, roster-from, fault-number};
+ghost use Rattle.auth.specs.Rosters.{honest, faulty-node, roster-answer, roster-from, fault-number};
 use crate::roster::MAX_NODES;
 use crate::roster::Roster;
 use crate::roster::RosterFault;
@@ -7,7 +7,7 @@ use crate::roster::RosterFault;
 impl Roster {
     // A roster of which the listed nodes are faulty, in any order and as often as they may be listed.
     pub fn new(nodes: u8, bound: u8, faulty: &[u8]) -> Result<Roster, RosterFault>
-        ensures answer { λ r. ⌜ roster-told r ≡ roster-from nodes bound (now (faulty .entry)) ⌝ }
+        ensures answer { λ r. ⌜ roster-answer r ≡ roster-from nodes bound (now (faulty .entry)) ⌝ }
     {
         if nodes == 0 || nodes as usize > MAX_NODES || bound >= nodes {
             return Err(RosterFault::OutOfBounds);

@@ -32,7 +32,27 @@ fn an_honest_leader_brings_its_proposal() -> Result<(), Fail> {
     let messages = [sent(0, 1, 2, 5), sent(0, 15, 3, 6)];
     let outcomes = DirectBroadcast.broadcast(&roster, 255, 0, u64::MAX, &messages);
     let all = u64::MAX;
-    check(outcomes == [all, 0, all, all, all, all, all, all, all, all, all, all, all, all, all, 0])
+    check(
+        outcomes
+            == [
+                all,
+                0,
+                all,
+                all,
+                all,
+                all,
+                all,
+                all,
+                all,
+                all,
+                all,
+                all,
+                all,
+                all,
+                all,
+                0,
+            ],
+    )
 }
 
 #[test]

@@ -23,8 +23,16 @@ const SILENCE: &str = "box,state,outcome\n0,faulty,0\n1,honest,0\n2,honest,0\n3,
 
 #[test]
 fn a_message_reaches_its_receiver(rt: LibcRuntime) -> Result<(), Fail> {
-    prints(&rt, &message(0, 0, 1, 5), "box,state,outcome\n0,faulty,0\n1,honest,5\n2,honest,0\n3,honest,0\n")?;
-    prints(&rt, &message(0, 0, 3, 255), "box,state,outcome\n0,faulty,0\n1,honest,0\n2,honest,0\n3,honest,255\n")
+    prints(
+        &rt,
+        &message(0, 0, 1, 5),
+        "box,state,outcome\n0,faulty,0\n1,honest,5\n2,honest,0\n3,honest,0\n",
+    )?;
+    prints(
+        &rt,
+        &message(0, 0, 3, 255),
+        "box,state,outcome\n0,faulty,0\n1,honest,0\n2,honest,0\n3,honest,255\n",
+    )
 }
 
 #[test]

@@ -9,9 +9,9 @@ use Rattle.wire.specs.declared.message.Message.{Message}
 use Rattle.wire.specs.Faults.{file-refusal}
 
 -- what an answer says: the outcomes, or the refusal
-abbrev pub turn-told : Result (List ℕ) FileFault → Result (List ℕ) Refusal
-turn-told (Ok outcomes) = Ok outcomes
-turn-told (Err fault) = Err (file-refusal fault)
+abbrev pub turn-answer : Result (List ℕ) FileFault → Result (List ℕ) Refusal
+turn-answer (Ok outcomes) = Ok outcomes
+turn-answer (Err fault) = Err (file-refusal fault)
 
 -- the outcomes, given what the messages of the file lead to
 abbrev pub turn-from : (List Message → List ℕ) → Result (List Message) Refusal → Result (List ℕ) Refusal

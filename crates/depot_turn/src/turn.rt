@@ -1,7 +1,7 @@
 ghost use mathlib.Core.Path.{_≡_};
 ghost use Rattle.broadcast.specs.Instances.{instance};
 ghost use Rattle.wire.specs.Reading.{reading};
-ghost use Rattle.depot_turn.specs.Turns.{turn-told, turn-from, TurnLeaves};
+ghost use Rattle.depot_turn.specs.Turns.{turn-answer, turn-from, TurnLeaves};
 use auth::MAX_NODES;
 use auth::Roster;
 use broadcast::Broadcast;
@@ -33,7 +33,7 @@ pub fn run_turn<B: Broadcast>(
     proposal: u64,
     file: &[u8],
 ) -> Result<[u64; MAX_NODES], FileFault>
-    ensures answer { λ r. ⌜ turn-told r ≡ turn-from (λ messages. B·Broadcast .outcomes (now (broadcast .entry)) (instance (now (roster .entry)) turn leader proposal messages)) (reading (now (file .entry)) 128) ⌝ }
+    ensures answer { λ r. ⌜ turn-answer r ≡ turn-from (λ messages. B·Broadcast .outcomes (now (broadcast .entry)) (instance (now (roster .entry)) turn leader proposal messages)) (reading (now (file .entry)) 128) ⌝ }
     ensures after { λ r. ⌜ TurnLeaves (λ messages. B·Broadcast .leaves (now (broadcast .entry)) (instance (now (roster .entry)) turn leader proposal messages) (now (broadcast .exit))) (now (broadcast .exit) ≡ now (broadcast .entry)) (reading (now (file .entry)) 128) ⌝ }
 {
     let mut table = [NOTHING; MAX_MESSAGES];

@@ -1,8 +1,8 @@
 -- The file layer, one record at a time.
-use mathlib.Core.Bool.{Bool, true, false, cond}
-use mathlib.Core.Logic.{_⊎_, inl, inr, ⊎-elim}
+use mathlib.Core.Bool.{cond}
+use mathlib.Core.Logic.{_⊎_, ⊎-elim}
 use mathlib.Core.Path.{_≡_, refl, sym, ap, subst, _∙_}
-use mathlib.Core.List.{List, [], _∷_}
+use mathlib.Core.List.{List, []}
 use Prim.Native.Nat.{ℕ, zero, suc, _+_, _-_, _≤_, _<_}
 use native.Mathlib.Omega.{arith}
 use lib.Dec.{eqb}
@@ -20,7 +20,7 @@ use Rattle.wire.specs.declared.fault.Refusal.{Refusal}
 use Rattle.wire.specs.declared.message.Message.{Message}
 use Rattle.wire.specs.Faults.{refused}
 use Rattle.wire.specs.Format.{Item, message, comment}
-use Rattle.wire.specs.Reading.{record-at, record-length, bad-length, parsed, entry-at, onward, with-first, messages-within, messages-at, records-left, counted, filled, passed, entry-told, entry-content, Reads, room, reading}
+use Rattle.wire.specs.Reading.{record-at, record-length, parsed, entry-at, onward, with-first, messages-within, messages-at, records-left, counted, filled, passed, entry-answer, entry-content, Reads, room, reading}
 use Rattle.wire.specs.declared.entry.Entry.{Entry}
 use Rattle.wire.specs.declared.records.Records.{Records}
 use Rattle.wire.proofs.RecordLaws.{record-none}
@@ -97,8 +97,8 @@ pub record Went (file : List ℕ) (s s′ : Records) (e : Entry) : Type 0 where
   pub on : s′ .offset ≡ s .offset + record-length (records-left s)
   pub same : s′ .file .now ≡ s .file .now
 
-pub went-by : (file : List ℕ) (s s′ : Records) (e : Entry) (r : Result (Option Entry) MessageFault) → s .file .now ≡ file → r ≡ Ok (Some e) → entry-told r ≡ entry-at (s .offset) (records-left s) → s′ .offset ≡ passed (s .offset) (records-left s) r → s′ .file .now ≡ s .file .now → Went file s s′ e
-went-by file s s′ e r of was answer on same = record { of = of; read = sym (ap entry-told was) ∙ answer; on = on ∙ ap (passed (s .offset) (records-left s)) was; same = same }
+pub went-by : (file : List ℕ) (s s′ : Records) (e : Entry) (r : Result (Option Entry) MessageFault) → s .file .now ≡ file → r ≡ Ok (Some e) → entry-answer r ≡ entry-at (s .offset) (records-left s) → s′ .offset ≡ passed (s .offset) (records-left s) r → s′ .file .now ≡ s .file .now → Went file s s′ e
+went-by file s s′ e r of was answer on same = record { of = of; read = sym (ap entry-answer was) ∙ answer; on = on ∙ ap (passed (s .offset) (records-left s)) was; same = same }
 
 module _ {file : List ℕ} {s s′ : Records} {e : Entry} (went : Went file s s′ e) where
   lies : Lies (records-left s)

@@ -1,21 +1,20 @@
 -- What is written is read back, record by record.
-use mathlib.Core.Bool.{true, false}
-use mathlib.Core.List.{List, [], _∷_, _++_, append-assoc}
-use mathlib.Core.Path.{_≡_, refl, sym, ap, subst, _∙_}
-use Prim.Native.Nat.{ℕ, zero, suc, _+_, _-_, _*_, _^_, _≤_, _<_, min}
+use mathlib.Core.Bool.{true}
+use mathlib.Core.List.{List, [], _∷_, _++_}
+use mathlib.Core.Path.{_≡_, refl, sym, ap, _∙_}
+use Prim.Native.Nat.{ℕ, _+_, _-_, _*_, _^_, _≤_, _<_, min}
 use native.Mathlib.Omega.{arith}
-use lib.Dec.{leb}
-use lib.ListN.{length, getD, take, drop, replicate}
-use Rattle.std.specs.declared.option.Option.the-variants.{Some, None}
-use Rattle.std.specs.declared.result.Result.the-variants.{Ok, Err}
+use lib.ListN.{length, take, drop, replicate}
+use Rattle.std.specs.declared.option.Option.the-variants.{Some}
+use Rattle.std.specs.declared.result.Result.the-variants.{Ok}
 use Rattle.std.specs.shelf.Lists.{All, joined}
 use Rattle.std.proofs.shelf.Lists.{length-append, length-take, take-at, drop-at}
 use Rattle.std.proofs.shelf.Tests.{and-from, le-leb, eq-eqb, cond-true}
 use Rattle.wire.specs.declared.message.Signature.{Signature}
 use Rattle.wire.specs.declared.message.Message.{Message}
 use Rattle.wire.specs.Bytes.{little, number}
-use Rattle.wire.specs.Format.{Item, message, comment, Meaning, meaning, chain, signature-bytes, body-bytes, record-bytes, message-bytes, comment-bytes}
-use Rattle.wire.specs.Reading.{record-at, record-length, record-kind, record-body, parsed, entry-at, signature-from, signatures-from, blank, message-from, well-formed}
+use Rattle.wire.specs.Format.{message, comment, meaning, chain, signature-bytes, body-bytes, record-bytes, message-bytes, comment-bytes}
+use Rattle.wire.specs.Reading.{record-length, record-kind, record-body, parsed, entry-at, signatures-from, blank, message-from, well-formed}
 use Rattle.wire.specs.Laws.{Sized}
 use Rattle.wire.proofs.ByteLaws.{number-little}
 use Rattle.wire.proofs.RecordLaws.{record-message, record-comment}

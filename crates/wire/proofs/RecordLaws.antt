@@ -1,17 +1,16 @@
 -- The record layer, case by case.
-use mathlib.Core.Bool.{Bool, true, false}
 use mathlib.Core.Logic.{_⊎_}
-use mathlib.Core.Path.{_≡_, refl, sym, ap, _∙_}
-use mathlib.Core.List.{List, [], _∷_}
-use Prim.Native.Nat.{ℕ, _+_, _-_, _≤_, _<_}
+use mathlib.Core.Path.{_≡_}
+use mathlib.Core.List.{List}
+use Prim.Native.Nat.{ℕ, _-_, _≤_, _<_}
 use native.Mathlib.Omega.{arith}
-use lib.ListN.{length, getD, take, drop}
+use lib.ListN.{length}
 use Rattle.std.proofs.shelf.Ways.{tells}
 use Rattle.std.specs.declared.option.Option.the-variants.{Some, None}
 use Rattle.std.specs.declared.result.Result.the-variants.{Ok, Err}
 use Rattle.wire.specs.declared.fault.Layer.the-variants as layer
 use Rattle.wire.specs.Faults.{refused}
-use Rattle.wire.specs.Format.{Item, message, comment}
+use Rattle.wire.specs.Format.{message, comment}
 use Rattle.wire.specs.Reading.{record-at, record-length, record-kind, record-body}
 
 module _ (offset : ℕ) (bytes : List ℕ) where

@@ -1,6 +1,6 @@
 -- What a table holds while messages are put into it.
 use mathlib.Core.Path.{_≡_, refl, sym, ap, _∙_}
-use mathlib.Core.List.{List, [], _∷_, _++_}
+use mathlib.Core.List.{List, _++_}
 use Prim.Native.Nat.{ℕ, zero, suc, _+_, _-_, _<_, _≤_}
 use native.Mathlib.Nat.{zero-add}
 use native.Mathlib.Numerals.{add-one}
@@ -16,7 +16,7 @@ use Rattle.std.proofs.shelf.Tests.{cond-both, eqb-false}
 use Rattle.wire.specs.declared.fault.Refusal.{Refusal}
 use Rattle.wire.specs.declared.message.Message.{Message}
 use Rattle.wire.specs.Format.{Item, message, comment}
-use Rattle.wire.specs.Reading.{record-length, entry-at, onward, messages-within, with-first, filled, Reads}
+use Rattle.wire.specs.Reading.{entry-at, onward, messages-within, with-first, filled, Reads}
 
 -- the messages put one after the other from place n on
 abbrev pub laid : List Message → ℕ → Result (List Message) Refusal → List Message

@@ -1,31 +1,30 @@
 -- Whole files: what is written is read, and what is read was written.
 use mathlib.Core.Bool.{Bool, true, false, cond}
 use mathlib.Core.List.{List, [], _∷_, _++_, map, append-assoc, append-nil}
-use mathlib.Core.Logic.{_⊎_, inl, inr, ⊎-elim}
 use mathlib.Core.Path.{_≡_, refl, sym, ap, subst, _∙_}
 use Prim.Native.Nat.{ℕ, zero, suc, _+_, _-_, _*_, _≤_, _<_, min}
 use native.Mathlib.Omega.{arith}
-use lib.Dec.{eqb, ltb}
+use lib.Dec.{eqb, leb, ltb}
 use lib.ListN.{length, getD, take, drop, replicate}
 use Rattle.std.specs.declared.option.Option.{Option}
 use Rattle.std.specs.declared.option.Option.the-variants.{Some, None}
 use Rattle.std.specs.declared.result.Result.{Result}
 use Rattle.std.specs.declared.result.Result.the-variants.{Ok, Err}
 use Rattle.std.specs.shelf.Lists.{All, joined}
-use Rattle.std.proofs.shelf.Lists.{length-append, length-take, length-take-le, length-drop, length-map, take-at, take-append-drop, drop-drop, nil-from-length}
-use Rattle.std.proofs.shelf.Tests.{and-parts, leb-true, eqb-true, cases-bool, cond-true, cond-false}
+use Rattle.std.proofs.shelf.Lists.{length-append, length-take, length-drop, length-map, take-at, take-append-drop, drop-drop, nil-from-length}
 use Rattle.std.proofs.shelf.Ways.{tells}
 use Rattle.wire.specs.declared.fault.FileFault.{FileFault}
 use Rattle.wire.specs.declared.fault.Refusal.{Refusal}
-use Rattle.wire.specs.declared.message.Signature.{Signature}
+use Rattle.wire.specs.declared.fault.ShortBuffer.{ShortBuffer}
 use Rattle.wire.specs.declared.message.Message.{Message}
-use Rattle.wire.specs.Bytes.{Octets, little, number}
-use Rattle.wire.specs.Format.{Item, message, comment, Meaning, meaning, chain, signature-bytes, body-bytes, record-bytes, message-bytes, comment-bytes, item-bytes, file-bytes}
-use Rattle.wire.specs.Reading.{record-at, record-length, record-kind, record-body, parsed, entry-at, signature-from, signatures-from, blank, message-from, well-formed, with-first, onward, messages-within, messages-at, room, reading, file-told, counted, filled}
-use Rattle.wire.specs.Laws.{Sized, Writable, messages-of, WrittenIsRead, ReadIsWritten}
+use Rattle.wire.specs.Bytes.{Octets, little}
+use Rattle.wire.specs.Format.{Item, message, comment, meaning, chain, signature-bytes, body-bytes, record-bytes, message-bytes, comment-bytes, file-bytes}
+use Rattle.wire.specs.Reading.{record-at, record-length, record-kind, record-body, parsed, signatures-from, blank, message-from, well-formed, with-first, onward, messages-within, messages-at, room, reading, file-answer, counted, filled}
+use Rattle.wire.specs.Laws.{Writable, messages-of, WrittenIsRead, ReadIsWritten, ReadBack}
+use Rattle.wire.specs.Writing.{Shortage, writing, written, write-answer}
 use Rattle.wire.proofs.ByteLaws.{little-first, octets-take, octets-drop}
 use Rattle.wire.proofs.FileLaws.{Lies, at-end, at-comment, at-message, reading-small}
-use Rattle.wire.proofs.FormatLaws.{read-length, read-rest, read-comment, read-message, read-back, read-back-means, chain-short}
+use Rattle.wire.proofs.FormatLaws.{read-rest, read-comment, read-message, read-back, read-back-means, chain-short}
 use Rattle.wire.proofs.RecordLaws.{record-none}
 use Rattle.wire.proofs.SignatureLaws.{length-signatures}
 use Rattle.wire.proofs.WritingLaws.{length-signature-bytes}
@@ -155,7 +154,7 @@ made-within : (turns places offset : ℕ) (bytes : List ℕ) (ms : List Message)
 unfolding messages-within
 made-within zero places offset bytes ms h o got = made-none bytes ms (omega arith) (no-messages got)
 made-within (suc turns) places offset bytes ms h o got =
-    made-onward offset bytes o _ (λ n ms′ lies is. made-within turns n _ (drop (record-length bytes) bytes) ms′ (simp length-drop (omega (arith, lies .0))) (octets-drop (record-length bytes) bytes o) is) places (record-at offset bytes) ms refl got
+    made-onward offset bytes o _ (λ n ms′ lies is. made-within turns n (offset + record-length bytes) (drop (record-length bytes) bytes) ms′ (simp length-drop (omega (arith, lies .0))) (octets-drop (record-length bytes) bytes o) is) places (record-at offset bytes) ms refl got
 
 -- what is read was written
 pub read-was-written : (file : List ℕ) (places : ℕ) (ms : List Message) → Octets file → reading file places ≡ Ok ms → Made file ms
@@ -166,7 +165,7 @@ read-was-written file places ms o got = made-within (length file) (room places) 
 pub written-is-read : (file : List ℕ) (places : ℕ) (items : List (Item Message)) → All Writable items → file ≡ file-bytes items → length file ≤ 32768 → length (messages-of items) ≤ room places → reading file places ≡ Ok (map read-back (messages-of items))
 written-is-read file places items w is small few = reading-small file places small ∙ ap (messages-at (room places) 0) is ∙ read-all items (room places) 0 w few
 
-count-is : (r : Result ℕ FileFault) (n : ℕ) → file-told r ≡ Ok n → r ≡ Ok n
+count-is : (r : Result ℕ FileFault) (n : ℕ) → file-answer r ≡ Ok n → r ≡ Ok n
 count-is (Ok m) n e = cc
 count-is (Err fault) n e = let z : _≡_ {A = ℕ} 0 1 = cc in absurd (omega arith)
 
@@ -175,7 +174,7 @@ counted-is (Ok ms) n e = (ms, refl, grind arith)
 counted-is (Err refusal) n e = let z : _≡_ {A = ℕ} 0 1 = cc in absurd (omega arith)
 
 -- the two laws of a call of the reader, from what it answers and what it leaves in the table
-module _ (file : List ℕ) (before after : List Message) (answer : Result ℕ FileFault) (told : file-told answer ≡ counted 0 (reading file (length before))) (left : after ≡ filled before (reading file (length before))) where
+module _ (file : List ℕ) (before after : List Message) (answer : Result ℕ FileFault) (told : file-answer answer ≡ counted 0 (reading file (length before))) (left : after ≡ filled before (reading file (length before))) where
   pub law-written-is-read : WrittenIsRead file (length before) answer after
   law-written-is-read items w is small few fits =
       let n = length (messages-of items) in
@@ -187,6 +186,21 @@ module _ (file : List ℕ) (before after : List Message) (answer : Result ℕ Fi
 
   pub law-read-is-written : Octets file → ReadIsWritten file answer after
   law-read-is-written o count is =
-      let (ms, got, size) = counted-is (reading file (length before)) count (sym told ∙ ap file-told is) in
+      let (ms, got, size) = counted-is (reading file (length before)) count (sym told ∙ ap file-answer is) in
       let (items, bytes, holds) = read-was-written file (length before) ms o got in
       (items, bytes, holds ∙ sym (ap (take count) (left ∙ ap (filled before) got) ∙ take-at ms _ count (sym size)))
+
+written-whole : (m : Message) (buffer : List ℕ) (n : ℕ) → writing m buffer ≡ Ok n → (n ≡ length (message-bytes m)) × (written m buffer ≡ message-bytes m ++ drop (length (message-bytes m)) buffer)
+written-whole m buffer n e = whole (leb (length (message-bytes m)) (length buffer)) e
+  where
+    whole : (fits : Bool) → cond {A = Result ℕ Shortage} fits (Ok (length (message-bytes m))) (Err (record { number = 5; needed = length (message-bytes m) })) ≡ Ok n → (n ≡ length (message-bytes m)) × (cond fits (message-bytes m ++ drop (length (message-bytes m)) buffer) buffer ≡ message-bytes m ++ drop (length (message-bytes m)) buffer)
+    whole true e = (cc, refl)
+    whole false e = let z : _≡_ {A = ℕ} 0 1 = cc in absurd (omega arith)
+
+-- the law of a call of the writer, from what it answers and what it leaves in the buffer
+pub law-read-back : (m : Message) (before after : List ℕ) (answer : Result ℕ ShortBuffer) → write-answer answer ≡ writing m before → after ≡ written m before → ReadBack m answer after
+law-read-back m before after answer told left n is sized =
+    let (size, bytes) = written-whole m before n (sym told ∙ ap write-answer is) in
+    let file : take n after ≡ file-bytes (message m ∷ []) = ap (take n) (left ∙ bytes) ∙ take-at (message-bytes m) _ n (sym size) ∙ sym (append-nil (message-bytes m)) in
+    let small : length (take n after) ≤ 32768 = omega (arith, ap length file, length-append (message-bytes m) [], length-signature-bytes (chain m), chain-short m) in
+    (read-back m, written-is-read (take n after) 1 (message m ∷ []) (sized, tt) file small (omega arith), read-back-means m sized)

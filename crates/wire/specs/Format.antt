@@ -1,5 +1,5 @@
 -- The message file as it is written, byte by byte.
-use mathlib.Core.List.{List, [], _∷_, _++_}
+use mathlib.Core.List.{List, _∷_, _++_}
 use Prim.Native.Nat.{ℕ, _+_, min}
 use lib.ListN.{length, take}
 use Rattle.std.specs.shelf.Lists.{joined}

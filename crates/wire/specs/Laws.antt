@@ -7,8 +7,10 @@ use Rattle.std.specs.declared.result.Result.{Result}
 use Rattle.std.specs.declared.result.Result.the-variants.{Ok}
 use Rattle.std.specs.shelf.Lists.{All}
 use Rattle.wire.specs.declared.fault.FileFault.{FileFault}
+use Rattle.wire.specs.declared.fault.ShortBuffer.{ShortBuffer}
 use Rattle.wire.specs.declared.message.Message.{Message}
 use Rattle.wire.specs.Format.{Item, message, comment, chain, meaning, file-bytes}
+use Rattle.wire.specs.Reading.{reading}
 
 -- each field fits its bytes, as it does in every message that the code can hold
 pub record Sized (m : Message) : Type 0 where
@@ -39,3 +41,7 @@ WrittenIsRead file places answer table =
 -- A file that is read is nothing but the messages that it gave, written again, with comments between them.
 abbrev pub ReadIsWritten : List ℕ → Result ℕ FileFault → List Message → Type 0
 ReadIsWritten file answer table = (count : ℕ) → answer ≡ Ok count → (items : List (Item Message)) × (file ≡ file-bytes items) × (messages-of items ≡ take count table)
+
+-- The bytes that were written, taken for a file, give one message, with the meaning of the one that was written.
+abbrev pub ReadBack : Message → Result ℕ ShortBuffer → List ℕ → Type 0
+ReadBack m answer buffer = (n : ℕ) → answer ≡ Ok n → Sized m → (again : Message) × (reading (take n buffer) 1 ≡ Ok (again ∷ [])) × (meaning again ≡ meaning m)

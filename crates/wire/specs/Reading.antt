@@ -20,7 +20,6 @@ use Rattle.wire.specs.declared.record.Record.the-variants as a-record
 use Rattle.wire.specs.declared.entry.Entry.{Entry}
 use Rattle.wire.specs.declared.entry.Entry.the-variants as an-entry
 use Rattle.wire.specs.declared.records.Records.{Records}
-use Rattle.wire.specs.declared.entries.Entries.{Entries}
 use Rattle.wire.specs.Bytes.{number}
 use Rattle.wire.specs.Faults.{refused, record-refusal, message-refusal, file-refusal}
 use Rattle.wire.specs.Format.{Item, message, comment}
@@ -53,10 +52,10 @@ abbrev pub content : Record → Item (List ℕ)
 content (a-record.Message body) = message (body .now)
 content (a-record.Comment text) = comment (text .now)
 
-abbrev pub record-told : Result (Option Record) RecordFault → Result (Option (Item (List ℕ))) Refusal
-record-told (Ok None) = Ok None
-record-told (Ok (Some r)) = Ok (Some (content r))
-record-told (Err fault) = Err (record-refusal fault)
+abbrev pub record-answer : Result (Option Record) RecordFault → Result (Option (Item (List ℕ))) Refusal
+record-answer (Ok None) = Ok None
+record-answer (Ok (Some r)) = Ok (Some (content r))
+record-answer (Err fault) = Err (record-refusal fault)
 
 -- THE MESSAGE LAYER
 
@@ -99,10 +98,10 @@ abbrev pub entry-content : Entry → Item Message
 entry-content (an-entry.Message m) = message m
 entry-content (an-entry.Comment text) = comment (text .now)
 
-abbrev pub entry-told : Result (Option Entry) MessageFault → Result (Option (Item Message)) Refusal
-entry-told (Ok None) = Ok None
-entry-told (Ok (Some e)) = Ok (Some (entry-content e))
-entry-told (Err fault) = Err (message-refusal fault)
+abbrev pub entry-answer : Result (Option Entry) MessageFault → Result (Option (Item Message)) Refusal
+entry-answer (Ok None) = Ok None
+entry-answer (Ok (Some e)) = Ok (Some (entry-content e))
+entry-answer (Err fault) = Err (message-refusal fault)
 
 -- where a reader stands after an answer: past the record, if one was read
 abbrev pub passed : {X R : Type 0} → ℕ → List ℕ → Result (Option X) R → ℕ
@@ -146,9 +145,9 @@ unfoldable pub reading : List ℕ → ℕ → Result (List Message) Refusal
 reading file places = cond (ltb 32768 (length file)) (Err (refused 4 32768 layer.File)) (messages-at (room places) 0 file)
 
 -- what the file layer's answer says: how many messages were read
-abbrev pub file-told : Result ℕ FileFault → Result ℕ Refusal
-file-told (Ok count) = Ok count
-file-told (Err fault) = Err (file-refusal fault)
+abbrev pub file-answer : Result ℕ FileFault → Result ℕ Refusal
+file-answer (Ok count) = Ok count
+file-answer (Err fault) = Err (file-refusal fault)
 
 abbrev pub counted : ℕ → Result (List Message) Refusal → Result ℕ Refusal
 counted before (Ok ms) = Ok (before + length ms)

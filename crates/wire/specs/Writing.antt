@@ -18,9 +18,9 @@ pub record Shortage : Type 0 where
 abbrev pub shortage : ShortBuffer → Shortage
 shortage s = record { number = 5; needed = s .needed }
 
-abbrev pub write-told : Result ℕ ShortBuffer → Result ℕ Shortage
-write-told (Ok n) = Ok n
-write-told (Err s) = Err (shortage s)
+abbrev pub write-answer : Result ℕ ShortBuffer → Result ℕ Shortage
+write-answer (Ok n) = Ok n
+write-answer (Err s) = Err (shortage s)
 
 -- the message's length, or a refusal where the buffer is shorter
 abbrev pub writing : Message → List ℕ → Result ℕ Shortage

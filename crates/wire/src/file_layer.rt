@@ -1,10 +1,9 @@
 ghost use mathlib.Core.Path.{_≡_};
 ghost use mathlib.Core.Bool.{true};
-ghost use Prim.Native.Nat.{ℕ};
 ghost use lib.ListN.{length};
 ghost use Rattle.std.specs.Results.{isOk};
 ghost use Rattle.wire.specs.Laws.{WrittenIsRead, ReadIsWritten};
-ghost use Rattle.wire.specs.Reading.{messages-at, room, reading, file-told, counted, filled, Reads};
+ghost use Rattle.wire.specs.Reading.{messages-at, room, reading, file-answer, counted, filled, Reads};
 use crate::entries::Entries;
 use crate::entry::Entry;
 use crate::fault::FileFault;
@@ -18,7 +17,7 @@ pub const MAX_MESSAGES: usize = 128;
 
 // How many messages the file has, once each record of it was looked at; at most `most`.
 fn count_messages(file: &[u8], most: usize) -> Result<usize, FileFault>
-    ensures { λ r. ⌜ file-told r ≡ counted 0 (messages-at most 0 (now (file .entry))) ⌝ }
+    ensures { λ r. ⌜ file-answer r ≡ counted 0 (messages-at most 0 (now (file .entry))) ⌝ }
 {
     let mut entries = Entries::new(file);
     let mut count = 0;
@@ -56,7 +55,7 @@ fn fill(file: &[u8], table: &mut [Message]) -> Result<(), FileFault>
 // Reads the messages of a file into the table's first places, and answers how many there are.
 // The whole file is looked at before the first write, so a refusal leaves the table as it was.
 pub fn read_messages(file: &[u8], table: &mut [Message]) -> Result<usize, FileFault>
-    ensures answer { λ r. ⌜ file-told r ≡ counted 0 (reading (now (file .entry)) (length (now (table .entry)))) ⌝ }
+    ensures answer { λ r. ⌜ file-answer r ≡ counted 0 (reading (now (file .entry)) (length (now (table .entry)))) ⌝ }
     ensures table { λ r. ⌜ now (table .exit) ≡ filled (now (table .entry)) (reading (now (file .entry)) (length (now (table .entry)))) ⌝ }
     ensures written_is_read { λ r. ⌜ WrittenIsRead (now (file .entry)) (length (now (table .entry))) r (now (table .exit)) ⌝ }
     ensures read_is_written { λ r. ⌜ ReadIsWritten (now (file .entry)) r (now (table .exit)) ⌝ }

@@ -1,10 +1,10 @@
 ghost use mathlib.Core.Path.{_≡_};
 ghost use mathlib.Core.Bool.{true};
 ghost use mathlib.Core.List.{_++_};
-ghost use Prim.Native.Nat.{ℕ, _+_, _-_, _*_, _≤_};
-ghost use lib.ListN.{length, getD, take, drop, replicate};
+ghost use Prim.Native.Nat.{_+_, _-_, _*_, _≤_};
+ghost use lib.ListN.{length, take, drop, replicate};
 ghost use Rattle.wire.specs.Bytes.{number};
-ghost use Rattle.wire.specs.Reading.{blank, signature-from, signatures-from, message-from, well-formed, entry-told, entry-at, records-left, passed};
+ghost use Rattle.wire.specs.Reading.{blank, signature-from, signatures-from, message-from, well-formed, entry-answer, entry-at, records-left, passed};
 use crate::entries::Entries;
 use crate::entry::Entry;
 use crate::fault::MessageFault;
@@ -105,7 +105,7 @@ impl<'a> Entries<'a> {
 
     // The next record with its message read, or none where no byte is left.
     pub fn next(&mut self) -> Result<Option<Entry<'a>>, MessageFault>
-        ensures answer { λ r. ⌜ entry-told r ≡ entry-at (now (self .entry) .records .offset) (records-left (now (self .entry) .records)) ⌝ }
+        ensures answer { λ r. ⌜ entry-answer r ≡ entry-at (now (self .entry) .records .offset) (records-left (now (self .entry) .records)) ⌝ }
         ensures moves_on { λ r. ⌜ now (self .exit) .records .offset ≡ passed (now (self .entry) .records .offset) (records-left (now (self .entry) .records)) r ⌝ }
         ensures same_file { λ r. ⌜ now (now (self .exit) .records .file) ≡ now (now (self .entry) .records .file) ⌝ }
     {

@@ -1,6 +1,5 @@
 ghost use mathlib.Core.Path.{_≡_};
-ghost use Prim.Native.Nat.{ℕ};
-ghost use Rattle.wire.specs.Reading.{record-told, record-at, records-left, passed};
+ghost use Rattle.wire.specs.Reading.{record-answer, record-at, records-left, passed};
 use crate::fault::RecordFault;
 use crate::record::Record;
 use crate::records::Records;
@@ -24,7 +23,7 @@ impl<'a> Records<'a> {
 
     // The next record, or none where no byte is left. A reader that refuses stays where it is.
     pub fn next(&mut self) -> Result<Option<Record<'a>>, RecordFault>
-        ensures answer { λ r. ⌜ record-told r ≡ record-at (now (self .entry) .offset) (records-left (now (self .entry))) ⌝ }
+        ensures answer { λ r. ⌜ record-answer r ≡ record-at (now (self .entry) .offset) (records-left (now (self .entry))) ⌝ }
         ensures moves_on { λ r. ⌜ now (self .exit) .offset ≡ passed (now (self .entry) .offset) (records-left (now (self .entry))) r ⌝ }
         ensures same_file { λ r. ⌜ now (now (self .exit) .file) ≡ now (now (self .entry) .file) ⌝ }
     {

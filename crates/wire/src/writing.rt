@@ -1,10 +1,11 @@
 ghost use mathlib.Core.Path.{_≡_};
-ghost use Prim.Native.Nat.{ℕ, _+_, _*_, _≤_};
+ghost use Prim.Native.Nat.{_+_, _*_, _≤_};
 ghost use lib.ListN.{length};
 ghost use lib.Seq.{paste};
 ghost use Rattle.std.specs.shelf.Lists.{joined};
 ghost use Rattle.wire.specs.Format.{signature-bytes};
-ghost use Rattle.wire.specs.Writing.{write-told, writing, written};
+ghost use Rattle.wire.specs.Laws.{ReadBack};
+ghost use Rattle.wire.specs.Writing.{write-answer, writing, written};
 use crate::fault::ShortBuffer;
 use crate::message::Message;
 use crate::message::Signature;
@@ -43,8 +44,9 @@ fn put_signatures(buffer: &mut [u8], chain: &[Signature])
 
 // Writes one message at the buffer's start, and answers how many bytes it took.
 pub fn write_message(message: &Message, buffer: &mut [u8]) -> Result<usize, ShortBuffer>
-    ensures answer { λ r. ⌜ write-told r ≡ writing (now (message .entry)) (now (buffer .entry)) ⌝ }
+    ensures answer { λ r. ⌜ write-answer r ≡ writing (now (message .entry)) (now (buffer .entry)) ⌝ }
     ensures buffer { λ r. ⌜ now (buffer .exit) ≡ written (now (message .entry)) (now (buffer .entry)) ⌝ }
+    ensures read_back { λ r. ⌜ ReadBack (now (message .entry)) r (now (buffer .exit)) ⌝ }
 {
     let chain = message.chain();
     let length = FIXED + SIGNATURE * chain.len();

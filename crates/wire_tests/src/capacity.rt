@@ -1,4 +1,4 @@
-use crate::samples::MARK;
+use crate::samples::FILLER;
 use crate::samples::ZERO;
 use crate::samples::put_messages;
 use crate::samples::reads;
@@ -20,7 +20,7 @@ fn the_limits() -> Result<(), Fail> {
 fn at_most_128_messages() -> Result<(), Fail> {
     let mut file = [0; 2064];
     put_messages(&mut file);
-    let mut table = [MARK; 129];
+    let mut table = [FILLER; 129];
     refuses(&file, &mut table, 4, 2048, "file")?;
     reads(&file[0..2048], &mut table, 128)?;
     for i in 0..128 {
@@ -32,18 +32,18 @@ fn at_most_128_messages() -> Result<(), Fail> {
             },
         )?;
     }
-    same(&table[128], &MARK)
+    same(&table[128], &FILLER)
 }
 
 #[test]
 fn a_message_more_than_the_table_holds() -> Result<(), Fail> {
     let mut file = [0; 48];
     put_messages(&mut file);
-    refuses(&file, &mut [MARK; 2], 4, 32, "file")?;
+    refuses(&file, &mut [FILLER; 2], 4, 32, "file")?;
     refuses(&file, &mut [], 4, 0, "file")?;
     // a comment takes no place
     file[34] = 2;
-    reads(&file, &mut [MARK; 2], 2)
+    reads(&file, &mut [FILLER; 2], 2)
 }
 
 #[test]
@@ -52,15 +52,15 @@ fn a_fault_behind_the_last_place_is_told_as_it_is() -> Result<(), Fail> {
     put_messages(&mut file);
     // the third message would have no place, and is no message
     file[39] = 1;
-    refuses(&file, &mut [MARK; 2], 3, 32, "message")?;
+    refuses(&file, &mut [FILLER; 2], 3, 32, "message")?;
     // the second has no place, and comes before the third
-    refuses(&file, &mut [MARK; 1], 4, 16, "file")
+    refuses(&file, &mut [FILLER; 1], 4, 16, "file")
 }
 
 #[test]
 fn the_largest_file() -> Result<(), Fail> {
     let mut file = [0; 32_768];
-    let mut table = [MARK; 1];
+    let mut table = [FILLER; 1];
     refuses(&file, &mut table, 1, 0, "record")?;
     // one comment of 32,768 bytes
     file[1] = 128;
@@ -72,9 +72,9 @@ fn the_largest_file() -> Result<(), Fail> {
 #[test]
 fn a_byte_more_is_refused_before_all_else() -> Result<(), Fail> {
     let mut file = [0; 32_769];
-    refuses(&file, &mut [MARK; 1], 4, 32_768, "file")?;
+    refuses(&file, &mut [FILLER; 1], 4, 32_768, "file")?;
     file[0] = 1;
     file[1] = 128;
     file[2] = 2;
-    refuses(&file, &mut [MARK; 1], 4, 32_768, "file")
+    refuses(&file, &mut [FILLER; 1], 4, 32_768, "file")
 }

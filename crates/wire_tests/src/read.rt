@@ -1,5 +1,5 @@
 use crate::samples::DISTINCT_BYTES;
-use crate::samples::MARK;
+use crate::samples::FILLER;
 use crate::samples::ZERO;
 use crate::samples::distinct;
 use crate::samples::reads;
@@ -10,7 +10,7 @@ use wire::Message;
 
 #[test]
 fn an_empty_file() -> Result<(), Fail> {
-    let mut table = [MARK; 1];
+    let mut table = [FILLER; 1];
     reads(&[], &mut table, 0)?;
     unchanged(&table)?;
     reads(&[], &mut [], 0)
@@ -19,7 +19,7 @@ fn an_empty_file() -> Result<(), Fail> {
 #[test]
 fn one_message() -> Result<(), Fail> {
     let file = b"\x19\0\x01\0\0\0\x01\x01\x05\0\0\0\0\0\0\0\0\0\0\0\0\0\0\0\0";
-    let mut table = [MARK; 2];
+    let mut table = [FILLER; 2];
     reads(file, &mut table, 1)?;
     same(
         &table[0],
@@ -30,7 +30,7 @@ fn one_message() -> Result<(), Fail> {
             ..ZERO
         },
     )?;
-    same(&table[1], &MARK)?;
+    same(&table[1], &FILLER)?;
     let chain = table[0].chain();
     check(chain.len() == 1)?;
     check_eq(chain[0].signer, 0)?;
@@ -39,7 +39,7 @@ fn one_message() -> Result<(), Fail> {
 
 #[test]
 fn the_lowest_byte_of_a_number_comes_first() -> Result<(), Fail> {
-    let mut table = [MARK; 1];
+    let mut table = [FILLER; 1];
     reads(DISTINCT_BYTES, &mut table, 1)?;
     same(&table[0], &distinct())
 }
@@ -48,9 +48,9 @@ fn the_lowest_byte_of_a_number_comes_first() -> Result<(), Fail> {
 fn comments_between_messages() -> Result<(), Fail> {
     let file =
         b"\x04\0\x02\0\x10\0\x01\0\x01\0\0\0\0\0\0\0\0\0\0\0\x06\0\x02\0\x10\0\x10\0\x01\0\x02\0\0\0\0\0\0\0\0\0\0\0\x05\0\x02\0\x01";
-    let mut table = [MARK; 3];
+    let mut table = [FILLER; 3];
     reads(file, &mut table, 2)?;
     same(&table[0], &Message { round: 1, ..ZERO })?;
     same(&table[1], &Message { round: 2, ..ZERO })?;
-    same(&table[2], &MARK)
+    same(&table[2], &FILLER)
 }

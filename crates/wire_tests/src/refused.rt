@@ -1,13 +1,13 @@
-use crate::samples::MARK;
+use crate::samples::FILLER;
 use crate::samples::refuses;
 use std::test::*;
 
 fn record(file: &[u8], number: u8, offset: usize) -> Result<(), Fail> {
-    refuses(file, &mut [MARK; 2], number, offset, "record")
+    refuses(file, &mut [FILLER; 2], number, offset, "record")
 }
 
 fn message(file: &[u8], offset: usize) -> Result<(), Fail> {
-    refuses(file, &mut [MARK; 2], 3, offset, "message")
+    refuses(file, &mut [FILLER; 2], 3, offset, "message")
 }
 
 #[test]

@@ -7,7 +7,7 @@ use wire::Signature;
 use wire::read_messages;
 
 // What a table holds before it is read into.
-pub const MARK: Message = Message {
+pub const FILLER: Message = Message {
     round: 201,
     sender: 202,
     receiver: 203,
@@ -64,7 +64,7 @@ pub fn same(left: &Message, right: &Message) -> Result<(), Fail> {
 
 pub fn unchanged(table: &[Message]) -> Result<(), Fail> {
     for message in table {
-        same(message, &MARK)?;
+        same(message, &FILLER)?;
     }
     Ok(())
 }

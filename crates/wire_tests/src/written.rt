@@ -1,5 +1,5 @@
 use crate::samples::DISTINCT_BYTES;
-use crate::samples::MARK;
+use crate::samples::FILLER;
 use crate::samples::ZERO;
 use crate::samples::distinct;
 use crate::samples::reads;
@@ -97,7 +97,7 @@ fn what_is_written_is_read() -> Result<(), Fail> {
     }
     let mut file = [7; 160];
     writes(&message, &mut file, 160)?;
-    let mut table = [MARK; 1];
+    let mut table = [FILLER; 1];
     reads(&file, &mut table, 1)?;
     same(&table[0], &message)?;
     let mut again = [7; 160];

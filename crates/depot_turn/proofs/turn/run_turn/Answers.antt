@@ -1,10 +1,7 @@
-use mathlib.Core.Path.{_≡_, refl, sym, ap, subst, _∙_}
+use mathlib.Core.Path.{sym, ap, subst, _∙_}
 use Prim.Native.Nat.{_-_}
-use native.Mathlib.Omega.{arith}
-use lib.ListN.{take}
 use Rattle.std.specs.declared.result.Result.the-variants.{Ok}
-use Rattle.wire.specs.Reading.{reading, file-told}
-use Rattle.broadcast.specs.Instances.{instance}
+use Rattle.wire.specs.Reading.{reading, file-answer}
 use Rattle.depot_turn.specs.Turns.{turn-from, TurnLeaves}
 use Rattle.depot_turn.proofs.TurnLaws.{Read, read-first}
 use Rattle.depot_turn.proofs.turn.run_turn.Given as given
@@ -12,7 +9,7 @@ use Rattle.depot_turn.proofs.turn.run_turn.Needs as need
 use Rattle.depot_turn.proofs.turn.run_turn.Needs.{In-Continue-count, at·part-broadcast-end, at·returns}
 
 read : (g : given.Over) (c : In-Continue-count g) → Read (c .in-Continue-count .count) (reading (c .args .file .now) 128) (c .read-messages .last .table)
-read g c = let told = c .read-messages .ensures in read-first _ _ _ _ (sym (ap file-told (c .in-Continue-count .was tt)) ∙ told .answer) (told .table)
+read g c = let told = c .read-messages .ensures in read-first _ _ _ _ (sym (ap file-answer (c .in-Continue-count .was tt)) ∙ told .answer) (told .table)
 
 pub part-broadcast-end : need.part-broadcast-end
 part-broadcast-end g c = read g (at·part-broadcast-end g c .In-Continue-count) .within

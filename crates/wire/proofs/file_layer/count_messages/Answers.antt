@@ -1,12 +1,14 @@
-use mathlib.Core.Path.{_≡_, refl, sym, ap, _∙_}
-use Prim.Native.Nat.{_+_, _-_, _<_}
+use mathlib.Core.Path.{_≡_, sym, ap, _∙_}
+use Prim.Native.Nat.{_+_, _-_}
 use native.Mathlib.Omega.{arith}
 use native.Mathlib.Nat.{add-zero, sub-zero}
 use lib.ListN.{drop}
-use Rattle.std.specs.declared.result.Result.the-variants.{Ok}
+use Rattle.std.specs.declared.result.Result.the-variants.{Ok, Err}
 use Rattle.std.proofs.shelf.Results.{err-from-errBy}
-use Rattle.wire.specs.Reading.{counted, messages-at, records-left, entry-told, entry-content, passed}
-use Rattle.wire.proofs.FileLaws.{Went, went-by, at-end, at-fault, at-full, counted-first, still-of, within, falls, past-comment, past-message, no-room}
+use Rattle.wire.specs.declared.fault.Layer.the-variants as layer
+use Rattle.wire.specs.Faults.{refused}
+use Rattle.wire.specs.Reading.{counted, messages-at, records-left, entry-answer, entry-content}
+use Rattle.wire.proofs.FileLaws.{Went, went-by, at-end, at-fault, counted-first, still-of, within, falls, past-comment, past-message, no-room}
 use Rattle.wire.proofs.file_layer.count_messages.Needs as need
 use Rattle.wire.proofs.file_layer.count_messages.Needs.{In-Some, at·loop-entry-less, at·loop-entry-again, at·loop-entry-less-in-Message, at·loop-entry-again-in-Message, at·returns-then-count-most}
 
@@ -25,7 +27,7 @@ pub returns-in-rest : need.returns-in-rest
 returns-in-rest c =
     let s = c .loop-entry .entries .records in
     let count = c .loop-entry .count in
-    let ends = at-end (c .args .most - count) (s .offset) (records-left s) (sym (c .in-Continue-entry .ensures tt .answer) ∙ ap (λ o. entry-told (Ok o)) (c .in-rest .is)) in
+    let ends = at-end (c .args .most - count) (s .offset) (records-left s) (sym (c .in-Continue-entry .ensures tt .answer) ∙ ap (λ o. entry-answer (Ok o)) (c .in-rest .is)) in
     sym (c .loop-entry .inv .3 ∙ ap (counted count) ends ∙ ap Ok (add-zero count))
 
 -- what the call of `next` told of the reader, once it gave an entry
@@ -45,7 +47,7 @@ loop-entry-again c =
 pub returns-then-count-most : need.returns-then-count-most
 returns-then-count-most c =
     let none : c .args .most - c .loop-entry .count ≡ 0 = omega arith in
-    rw (c .offset-offset .ensures) (sym (c .loop-entry .inv .3 ∙ ap (counted _) (no-room (went (at·returns-then-count-most c .In-Some)) _ _ (ap entry-content (c .in-Message .is)) none)))
+    ap (λ o. Err (refused 4 o layer.File)) (c .offset-offset .ensures) ∙ (sym (c .loop-entry .inv .3 ∙ ap (counted _) (no-room (went (at·returns-then-count-most c .In-Some)) _ _ (ap entry-content (c .in-Message .is)) none)))
 
 pub loop-entry-less-in-Message : need.loop-entry-less-in-Message
 loop-entry-less-in-Message c = falls (went (at·loop-entry-less-in-Message c .In-Some)) (c .loop-entry .inv .2)

@@ -1,10 +1,10 @@
 use mathlib.Core.Path.{_≡_, refl, sym, ap, subst, _∙_}
-use Prim.Native.Nat.{_+_, _-_, _<_, _≤_}
+use Prim.Native.Nat.{_+_, _-_, _<_}
 use native.Mathlib.Nat.{sub-zero}
 use native.Mathlib.Omega.{arith}
-use lib.ListN.{length, set, drop}
+use lib.ListN.{length, drop}
 use Rattle.std.specs.declared.result.Result.the-variants.{Ok}
-use Rattle.wire.specs.Reading.{messages-at, records-left, room, entry-told, entry-content, passed, filled, Reads}
+use Rattle.wire.specs.Reading.{messages-at, records-left, room, entry-answer, entry-content, filled, Reads}
 use Rattle.wire.proofs.FileLaws.{Went, went-by, at-end, at-fault, still-of, within, falls, past-comment, past-message, has-room}
 use Rattle.wire.proofs.TableLaws.{laid, laid-first, laid-all, few, reads-rest, at-most-more}
 use Rattle.wire.proofs.file_layer.fill.Needs as need
@@ -67,5 +67,5 @@ loop-entry-again-in-Message c =
 pub returns : need.returns
 returns c =
     let s = c .loop-entry .entries .records in
-    let ends = at-end (room (length (c .args .table .now)) - c .loop-entry .filled) (s .offset) (records-left s) (sym (c .in-Continue-entry .ensures tt .answer) ∙ ap (λ o. entry-told (Ok o)) (c .in-rest .is)) in
+    let ends = at-end (room (length (c .args .table .now)) - c .loop-entry .filled) (s .offset) (records-left s) (sym (c .in-Continue-entry .ensures tt .answer) ∙ ap (λ o. entry-answer (Ok o)) (c .in-rest .is)) in
     record { no-fault = refl; table = sym (c .loop-entry .inv .4 ∙ ap (laid (c .loop-entry .table) (c .loop-entry .filled)) ends) }

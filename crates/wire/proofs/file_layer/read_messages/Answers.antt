@@ -1,18 +1,13 @@
 use mathlib.Core.List.{List}
-use mathlib.Core.Path.{_≡_, refl, sym, ap, _∙_}
+use mathlib.Core.Path.{_≡_, sym, ap, _∙_}
 use Prim.Native.Nat.{ℕ, _<_}
-use native.Mathlib.Omega.{arith}
 use lib.ListN.{length, getD}
 use mir.Syntax.{w8}
 use mir.Val.{Fits}
-use Rattle.std.specs.declared.result.Result.{Result}
-use Rattle.std.specs.declared.result.Result.the-variants.{Ok, Err}
 use Rattle.std.proofs.shelf.Elements.{all-from-getD}
 use Rattle.std.proofs.shelf.Results.{err-from-errBy}
-use Rattle.wire.specs.declared.fault.FileFault.{FileFault}
-use Rattle.wire.specs.declared.message.Message.{Message}
 use Rattle.wire.specs.Bytes.{Octets}
-use Rattle.wire.specs.Reading.{reading, messages-at, room, counted, filled, file-told}
+use Rattle.wire.specs.Reading.{reading, messages-at, counted, filled, file-answer}
 use Rattle.wire.proofs.FileLaws.{reading-large, reading-small, filled-refused}
 use Rattle.wire.proofs.WholeFileLaws.{law-written-is-read, law-read-is-written}
 use Rattle.wire.proofs.file_layer.read_messages.Needs as need
@@ -36,7 +31,7 @@ returns-in-Break-count c =
     let table = c .args .table .now in
     let small = reading-small file (length table) (c .if-file-gt-MAX-FILE .left) in
     let same = c .in-Break-count .ensures tt ∙ ap (λ n. counted 0 (messages-at n 0 file)) (c .min .ensures) ∙ sym (ap (counted 0) small) in
-    let told : file-told (c .from-residual .result) ≡ counted 0 (reading file (length table)) = rw (p .1, p .2) same in
+    let told : file-answer (c .from-residual .result) ≡ counted 0 (reading file (length table)) = rw (p .1, p .2) same in
     let left = sym (filled-refused table (reading file (length table)) _ same) in
     record { answer = told; table = left; written-is-read = law-written-is-read file table _ _ told left; read-is-written = law-read-is-written file table _ _ told left (octets file (c .typed .file)) }
 

@@ -1,77 +1,74 @@
 use mathlib.Core.List.{List}
 use mathlib.Core.Logic.{_⊎_, inl, inr, ⊎-elim}
 use mathlib.Core.Path.{_≡_, refl, ap, _∙_}
-use Prim.Native.Nat.{ℕ, _+_, _*_, _-_, _≤_, _<_}
+use Prim.Native.Nat.{ℕ, _+_, _-_}
 use native.Mathlib.Omega.{arith}
-use lib.ListN.{length, getD, take, drop}
+use lib.ListN.{length, take, drop}
 use Rattle.std.specs.declared.option.Option.the-variants.{Some}
 use Rattle.std.specs.declared.result.Result.the-variants.{Ok}
 use Rattle.std.proofs.shelf.Lists.{take-rest, length-drop}
-use Rattle.wire.specs.Format.{Item, message, comment}
-use Rattle.wire.specs.Reading.{content, record-at, record-length, record-kind}
+use Rattle.wire.specs.Format.{message, comment}
+use Rattle.wire.specs.Reading.{content, record-at, record-length, record-kind, record-body}
 use Rattle.wire.proofs.ByteLaws.{number-two-at}
 use Rattle.wire.proofs.RecordLaws.{record-none, record-bad-length, record-message, record-comment, record-bad-kind}
 use Rattle.wire.proofs.records.Records.next.Needs as need
-use Rattle.wire.proofs.records.Records.next.Needs.{in-1, in-2}
+use Rattle.wire.proofs.records.Records.next.Needs.{After-from-length, After-from-le-bytes-2, at·After-from-le-bytes-2, at·returns-then-length-lt-HEADER, at·returns-in-rest, at·returns, in-1, in-2}
+
+-- what is left of the file, as the code cuts it and as the definitions do
+abbrev left : (c : After-from-length) → List ℕ
+left c = let s = c .args .self .now in take (length (s .file .now) - s .offset) (drop (s .offset) (s .file .now))
+
+cut : (c : After-from-length) → left c ≡ drop (c .args .self .now .offset) (c .args .self .now .file .now)
+cut c = take-rest (c .args .self .now .file .now) (c .args .self .now .offset)
+
+told-length : (c : After-from-length) → c .from-length .result ≡ record-length (left c)
+told-length c = c .from-length .ensures ∙ c .from-le-bytes .ensures ∙ number-two-at (left c) 0 (omega arith)
+
+told-kind : (c : After-from-le-bytes-2) → c .from-le-bytes-2 .result ≡ record-kind (left (at·After-from-le-bytes-2 c .After-from-length))
+told-kind c = c .from-le-bytes-2 .ensures ∙ number-two-at (left (at·After-from-le-bytes-2 c .After-from-length)) 2 (omega arith)
 
 pub returns-then-offset-file : need.returns-then-offset-file
-returns-then-offset-file c = record {
-  answer = record-none _ _ (simp length-drop (omega arith));
-  moves-on = refl;
-  same-file = refl;
-}
+returns-then-offset-file c = record { answer = record-none _ _ (simp length-drop (omega arith)); moves-on = refl; same-file = refl }
 
 pub returns-then-left-lt-HEADER : need.returns-then-left-lt-HEADER
-returns-then-left-lt-HEADER c = record {
-  answer = record-bad-length _ _ (simp length-drop (omega arith)) (inl (simp length-drop (omega arith)));
-  moves-on = refl;
-  same-file = refl;
-}
-
--- the length as it was read is the length as it is written
-told-length : (left : List ℕ) (length′ read : ℕ) → length′ ≡ read → read ≡ getD left 0 0 + getD left 1 0 * 256 → 4 ≤ length left → length′ ≡ record-length left
-told-length left length′ read e told h = e ∙ told ∙ number-two-at left 0 (omega arith)
+returns-then-left-lt-HEADER c = record { answer = record-bad-length _ _ (simp length-drop (omega arith)) (inl (simp length-drop (omega arith))); moves-on = refl; same-file = refl }
 
 pub returns-then-length-lt-HEADER : need.returns-then-length-lt-HEADER
 returns-then-length-lt-HEADER c =
-    let s = c .args .self .now in
-    let left = take (length (s .file .now) - s .offset) (drop (s .offset) (s .file .now)) in
-    let long : c .from-length .result ≡ record-length left = told-length left _ _ (c .from-length .ensures) (c .from-le-bytes .ensures) (c .if-left-lt-HEADER .left) in
+    let a = at·returns-then-length-lt-HEADER c .After-from-length in
+    let offset = c .args .self .now .offset in
+    let long = told-length a in
     record {
-      answer = record-bad-length (s .offset) left (omega (arith, c .if-left-lt-HEADER .left)) (inr (⊎-elim (λ h. inl (omega arith)) (λ h. inr (omega arith)) (c .then-length-lt-HEADER .either))) ∙ ap (record-at (s .offset)) (take-rest (s .file .now) (s .offset));
+      answer = record-bad-length offset (left a) (omega arith) (inr (⊎-elim (λ h. inl (omega arith)) (λ h. inr (omega arith)) (c .then-length-lt-HEADER .either))) ∙ ap (record-at offset) (cut a);
       moves-on = refl;
       same-file = refl;
     }
 
 pub returns-in-rest : need.returns-in-rest
 returns-in-rest c =
-    let s = c .args .self .now in
-    let left = take (length (s .file .now) - s .offset) (drop (s .offset) (s .file .now)) in
-    let header : 4 ≤ length left = c .if-left-lt-HEADER .left in
-    let long : c .from-length .result ≡ record-length left = told-length left _ _ (c .from-length .ensures) (c .from-le-bytes .ensures) header in
-    let kind : c .from-le-bytes-2 .result ≡ record-kind left = c .from-le-bytes-2 .ensures ∙ number-two-at left 2 (omega arith) in
+    let a = at·returns-in-rest c .After-from-length in
+    let offset = c .args .self .now .offset in
+    let long = told-length a in
+    let kind = told-kind (at·returns-in-rest c .After-from-le-bytes-2) in
     record {
-      answer = record-bad-kind (s .offset) left header (omega arith) (omega arith) (λ one. omega arith) (λ two. omega arith) ∙ ap (record-at (s .offset)) (take-rest (s .file .now) (s .offset));
+      answer = record-bad-kind offset (left a) (omega arith) (omega arith) (omega arith) (λ one. omega arith) (λ two. omega arith) ∙ ap (record-at offset) (cut a);
       moves-on = refl;
       same-file = refl;
     }
 
 pub returns : need.returns
 returns c =
-    let s = c .args .self .now in
-    let left = take (length (s .file .now) - s .offset) (drop (s .offset) (s .file .now)) in
-    let rest : left ≡ drop (s .offset) (s .file .now) = take-rest (s .file .now) (s .offset) in
-    let header : 4 ≤ length left = c .if-left-lt-HEADER .left in
-    let long : c .from-length .result ≡ record-length left = told-length left _ _ (c .from-length .ensures) (c .from-le-bytes .ensures) header in
-    let kind : c .from-le-bytes-2 .result ≡ record-kind left = c .from-le-bytes-2 .ensures ∙ number-two-at left 2 (omega arith) in
+    let a = at·returns c .After-from-length in
+    let offset = c .args .self .now .offset in
+    let long = told-length a in
+    let kind = told-kind (at·returns c .After-from-le-bytes-2) in
+    let body : take (c .from-length .result - 4) (drop 4 (left a)) ≡ record-body (left a) = ap (λ n. take (n - 4) (drop 4 (left a))) long in
     record {
       answer =
           elim (c .match-from-le-bytes .came) [
-            | in-1 w ↦ ap (λ r. Ok (Some (content r))) (w .record-is) ∙ ap (λ n. Ok (Some (message (take (n - 4) (drop 4 left))))) long
-                ∙ record-message (s .offset) left header (omega arith) (omega arith) (omega (arith, w .in-1 .is)) ∙ ap (record-at (s .offset)) rest
-            | in-2 w ↦ ap (λ r. Ok (Some (content r))) (w .record-is) ∙ ap (λ n. Ok (Some (comment (take (n - 4) (drop 4 left))))) long
-                ∙ record-comment (s .offset) left header (omega arith) (omega arith) (omega (arith, w .in-2 .is)) ∙ ap (record-at (s .offset)) rest
-          ];
-      moves-on = ap (λ n. s .offset + n) (long ∙ ap record-length rest);
+            | in-1 w ↦ ap (λ r. Ok (Some (content r))) (w .record-is) ∙ ap (λ b. Ok (Some (message b))) body ∙ record-message offset (left a) (omega arith) (omega arith) (omega arith) (omega (arith, w .in-1 .is))
+            | in-2 w ↦ ap (λ r. Ok (Some (content r))) (w .record-is) ∙ ap (λ b. Ok (Some (comment b))) body ∙ record-comment offset (left a) (omega arith) (omega arith) (omega arith) (omega (arith, w .in-2 .is))
+          ] ∙ ap (record-at offset) (cut a);
+      moves-on = ap (λ n. offset + n) (long ∙ ap record-length (cut a));
       same-file = refl;
     }
