@@ -6,7 +6,7 @@ use native.Mathlib.Nat.{div-div-eq-div-mul, pow-suc}
 use native.Mathlib.Omega.{arith}
 use lib.ListN.{length, getD, take, drop}
 use Rattle.std.proofs.shelf.Bits.{div-below}
-use Rattle.std.proofs.shelf.Elements.{all-take, all-drop}
+use Rattle.std.proofs.shelf.Elements.{all-getD, all-take, all-drop}
 use Rattle.std.proofs.shelf.Lists.{getD-drop, length-drop, length-take-le}
 use Rattle.wire.specs.Bytes.{Octets, little, number}
 
@@ -50,3 +50,15 @@ octets-drop = all-drop (λ b. b < 256)
 -- the same for the first k bytes
 pub little-first : (k : ℕ) (bs : List ℕ) → k ≤ length bs → Octets bs → little k (number (take k bs)) ≡ take k bs
 little-first k bs h o = ap (λ n. little n (number (take k bs))) (sym (length-take-le k bs h)) ∙ little-number (take k bs) (octets-take k bs o)
+
+-- k bytes write a number below 256 ^ k
+pub number-below : (bs : List ℕ) → Octets bs → number bs < 256 ^ length bs
+number-below [] o = omega arith
+number-below (b ∷ bs) (h, o) = let more = pow-suc 256 (length bs) in let below = number-below bs o in omega arith
+
+-- eight of them
+pub eight-below : (bs : List ℕ) → 8 ≤ length bs → Octets bs → number (take 8 bs) < 2 ^ 64
+eight-below bs h o = subst (λ n. number (take 8 bs) < 256 ^ n) (length-take-le 8 bs h) (number-below (take 8 bs) (octets-take 8 bs o))
+
+pub octet-at : (bs : List ℕ) (i : ℕ) → i < length bs → Octets bs → getD bs i 0 < 256
+octet-at bs i h o = all-getD (λ b. b < 256) bs i 0 h o

@@ -1,3 +1,4 @@
+pub mod AgainLaws
 pub mod ByteLaws
 pub mod FileLaws
 pub mod FormatLaws

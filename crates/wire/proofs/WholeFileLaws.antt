@@ -1,33 +1,37 @@
--- Whole files: what is written is read, and what is read was written.
+-- Whole files: what is written is read, what is read was written, and a refusal names the first record at fault.
 use mathlib.Core.Bool.{Bool, true, false, cond}
 use mathlib.Core.List.{List, [], _∷_, _++_, map, append-assoc, append-nil}
+use mathlib.Core.Logic.{_⊎_, inl, inr, ⊎-elim}
 use mathlib.Core.Path.{_≡_, refl, sym, ap, subst, _∙_}
-use Prim.Native.Nat.{ℕ, zero, suc, _+_, _-_, _*_, _≤_, _<_, min}
+use Prim.Native.Nat.{ℕ, zero, suc, _+_, _-_, _≤_, _<_}
+use native.Mathlib.Nat.{zero-add}
 use native.Mathlib.Omega.{arith}
-use lib.Dec.{eqb, leb, ltb}
-use lib.ListN.{length, getD, take, drop, replicate}
+use lib.Dec.{eqb, leb}
+use lib.ListN.{length, take, drop}
 use Rattle.std.specs.declared.option.Option.{Option}
 use Rattle.std.specs.declared.option.Option.the-variants.{Some, None}
 use Rattle.std.specs.declared.result.Result.{Result}
 use Rattle.std.specs.declared.result.Result.the-variants.{Ok, Err}
-use Rattle.std.specs.shelf.Lists.{All, joined}
-use Rattle.std.proofs.shelf.Lists.{length-append, length-take, length-drop, length-map, take-at, take-append-drop, drop-drop, nil-from-length}
-use Rattle.std.proofs.shelf.Ways.{tells}
+use Rattle.std.specs.shelf.Lists.{All}
+use Rattle.std.proofs.shelf.Lists.{length-append, length-drop, length-map, take-at, nil-from-length}
+use Rattle.std.proofs.shelf.Tests.{cases-lt, eqb-true, eqb-false, cond-both, cond-false}
 use Rattle.wire.specs.declared.fault.FileFault.{FileFault}
+use Rattle.wire.specs.declared.fault.Layer.the-variants as layer
 use Rattle.wire.specs.declared.fault.Refusal.{Refusal}
 use Rattle.wire.specs.declared.fault.ShortBuffer.{ShortBuffer}
 use Rattle.wire.specs.declared.message.Message.{Message}
-use Rattle.wire.specs.Bytes.{Octets, little}
-use Rattle.wire.specs.Format.{Item, message, comment, meaning, chain, signature-bytes, body-bytes, record-bytes, message-bytes, comment-bytes, file-bytes}
-use Rattle.wire.specs.Reading.{record-at, record-length, record-kind, record-body, parsed, signatures-from, blank, message-from, well-formed, with-first, onward, messages-within, messages-at, room, reading, file-answer, counted, filled}
-use Rattle.wire.specs.Laws.{Writable, messages-of, WrittenIsRead, ReadIsWritten, ReadBack}
+use Rattle.wire.specs.Bytes.{Octets, number}
+use Rattle.wire.specs.Faults.{refused}
+use Rattle.wire.specs.Format.{Item, message, comment, meaning, chain, body-bytes, message-bytes, comment-bytes, item-bytes, file-bytes}
+use Rattle.wire.specs.Reading.{bad-length, record-at, record-length, record-kind, parsed, entry-at, message-from, well-formed, with-first, onward, messages-within, messages-at, room, reading, file-answer, counted, filled}
+use Rattle.wire.specs.Laws.{Writable, messages-of, WrittenIsRead, ReadIsWritten, Unreadable, Overfull, FirstFault, ReadBack}
 use Rattle.wire.specs.Writing.{Shortage, writing, written, write-answer}
-use Rattle.wire.proofs.ByteLaws.{little-first, octets-take, octets-drop}
-use Rattle.wire.proofs.FileLaws.{Lies, at-end, at-comment, at-message, reading-small}
+use Rattle.wire.proofs.ByteLaws.{octets-drop}
+use Rattle.wire.proofs.FileLaws.{Lies, at-end, at-comment, at-message, reading-large, reading-small}
 use Rattle.wire.proofs.FormatLaws.{read-rest, read-comment, read-message, read-back, read-back-means, chain-short}
 use Rattle.wire.proofs.RecordLaws.{record-none}
-use Rattle.wire.proofs.SignatureLaws.{length-signatures}
 use Rattle.wire.proofs.WritingLaws.{length-signature-bytes}
+use Rattle.wire.proofs.AgainLaws.{read-message-bytes, read-comment-bytes, read-none-bytes, begins-comment, begins-message}
 
 message-fits : (m : Message) → 4 + length (body-bytes m) < 65536
 message-fits m = omega (arith, length-signature-bytes (chain m), chain-short m)
@@ -50,116 +54,116 @@ meanings [] w = refl
 meanings (message m ∷ items) w = λ i. read-back-means m (w .0) i ∷ meanings items (w .1) i
 meanings (comment text ∷ items) w = meanings items (w .1)
 
--- bytes in five parts: two, two, n and the rest
-four-parts : (bytes : List ℕ) (n : ℕ) → take 2 bytes ++ (take 2 (drop 2 bytes) ++ take n (drop 4 bytes)) ++ drop (4 + n) bytes ≡ bytes
-four-parts bytes n =
-    let last : take n (drop 4 bytes) ++ drop (4 + n) bytes ≡ drop 4 bytes = ap (λ t. take n (drop 4 bytes) ++ t) (sym (drop-drop n 4 bytes)) ∙ take-append-drop n (drop 4 bytes) in
-    let later : take 2 (drop 2 bytes) ++ drop 4 bytes ≡ drop 2 bytes = ap (λ t. take 2 (drop 2 bytes) ++ t) (sym (drop-drop 2 2 bytes)) ∙ take-append-drop 2 (drop 2 bytes) in
-    append-assoc (take 2 bytes) _ _ ∙ ap (λ t. take 2 bytes ++ t) (append-assoc (take 2 (drop 2 bytes)) _ _ ∙ ap (λ t. take 2 (drop 2 bytes) ++ t) last ∙ later) ∙ take-append-drop 2 bytes
+-- how far a file was read: items up to its end, or up to a refusal
+abbrev Ends : ℕ → ℕ → List (Item Message) → List ℕ → Result (List Message) Refusal → Type 0
+Ends places offset items rest (Ok ms) = (rest ≡ []) × (messages-of items ≡ ms)
+Ends places offset items rest (Err refusal) = (refusal .offset ≡ offset + length (file-bytes items)) × (((refusal .number < 4) × Unreadable rest) ⊎ ((refusal .number ≡ 4) × Overfull places items rest))
 
--- a record that was read is a record as it is written
-record-again : (bytes : List ℕ) → Octets bytes → Lies bytes → record-bytes (record-kind bytes) (record-body bytes) ++ drop (record-length bytes) bytes ≡ bytes
-record-again bytes o (least, most) =
-    let n = record-length bytes - 4 in
-    let size : 4 + length (record-body bytes) ≡ record-length bytes = simp (length-take, length-drop) (omega arith) in
-    let whole : record-length bytes ≡ 4 + n = omega arith in
-    (λ i. (little 2 (size i) ++ (little-first 2 (drop 2 bytes) (simp length-drop (omega arith)) (octets-drop 2 bytes o) i ++ record-body bytes)) ++ drop (whole i) bytes)
-    ∙ ap (λ t. t ++ (take 2 (drop 2 bytes) ++ record-body bytes) ++ drop (4 + n) bytes) (little-first 2 bytes (omega arith) o) ∙ four-parts bytes n
+pub record Cut (places offset : ℕ) (bytes : List ℕ) (r : Result (List Message) Refusal) : Type 0 where
+  pub items : List (Item Message)
+  pub rest : List ℕ
+  pub writable : All Writable items
+  pub split : bytes ≡ file-bytes items ++ rest
+  pub ends : Ends places offset items rest r
 
-signatures-again : (k : ℕ) (bytes : List ℕ) → length bytes ≡ 9 * k → Octets bytes → joined signature-bytes (signatures-from k bytes) ≡ bytes
-signatures-again zero bytes h o = sym (nil-from-length bytes (omega arith))
-signatures-again (suc k) [] h o = absurd (omega arith)
-signatures-again (suc k) (b ∷ bytes) h (_, o) =
-    let rest : length (drop 8 bytes) ≡ 9 * k = simp length-drop (omega arith) in
-    ap (λ t. b ∷ t) ((λ i. little-first 8 bytes (omega arith) o i ++ signatures-again k (drop 8 bytes) rest (octets-drop 8 bytes o) i) ∙ take-append-drop 8 bytes)
+-- nothing more is read
+cut-here : (places offset : ℕ) (bytes : List ℕ) (r : Result (List Message) Refusal) → Ends places offset [] bytes r → Cut places offset bytes r
+cut-here places offset bytes r ends = record { items = []; rest = bytes; writable = tt; split = refl; ends = ends }
 
-well-formed-parts : (body : List ℕ) → well-formed body ≡ true → (12 ≤ length body) × (getD body 3 0 ≤ 16) × (length body ≡ 12 + 9 * getD body 3 0)
-well-formed-parts body w = (grind (arith, tells), grind (arith, tells), grind (arith, tells))
+joined-split : (bytes first later more rest : List ℕ) → bytes ≡ first ++ later → later ≡ more ++ rest → bytes ≡ (first ++ more) ++ rest
+joined-split bytes first later more rest e f = e ∙ ap (λ t. first ++ t) f ∙ sym (append-assoc first more rest)
 
-body-again : (body : List ℕ) → Octets body → (12 ≤ length body) × (getD body 3 0 ≤ 16) × (length body ≡ 12 + 9 * getD body 3 0) → body-bytes (message-from body) ≡ body
-unfolding message-from
-body-again [] o w = absurd (omega arith)
-body-again (_ ∷ []) o w = absurd (omega arith)
-body-again (_ ∷ _ ∷ []) o w = absurd (omega arith)
-body-again (_ ∷ _ ∷ _ ∷ []) o w = absurd (omega arith)
-body-again (r ∷ s ∷ t ∷ c ∷ more) octets (long, few, size) =
-    let o = octets .1 .1 .1 .1 in
-    let rest : length (drop 8 more) ≡ 9 * c = simp length-drop (omega arith) in
-    let all : min c 16 ≡ c = omega arith in
-    let signed : chain (message-from (r ∷ s ∷ t ∷ c ∷ more)) ≡ signatures-from c (drop 8 more) = ap (λ k. take k (signatures-from c (drop 8 more) ++ replicate (16 - c) blank)) all ∙ take-at _ _ c (length-signatures c _) in
-    (λ i. r ∷ s ∷ t ∷ length (signed i) ∷ (little-first 8 more (omega arith) o i ++ joined signature-bytes (signed i)))
-    ∙ (λ i. r ∷ s ∷ t ∷ length-signatures c (drop 8 more) i ∷ (take 8 more ++ signatures-again c (drop 8 more) rest (octets-drop 8 more o) i)) ∙ ap (λ bs. r ∷ s ∷ t ∷ c ∷ bs) (take-append-drop 8 more)
+comment-ends : (places offset : ℕ) (text : List ℕ) (items : List (Item Message)) (rest : List ℕ) (r : Result (List Message) Refusal) → Ends places (offset + length (comment-bytes text)) items rest r → Ends places offset (comment text ∷ items) rest r
+comment-ends places offset text items rest (Ok ms) ends = ends
+comment-ends places offset text items rest (Err refusal) (at, cause) = (at ∙ omega (arith, length-append (comment-bytes text) (file-bytes items)), cause)
 
--- the bytes are those of some items with these messages
-abbrev pub Made : List ℕ → List Message → Type 0
-Made bytes ms = (items : List (Item Message)) × (bytes ≡ file-bytes items) × (messages-of items ≡ ms)
+message-ends : (places offset : ℕ) (m : Message) (items : List (Item Message)) (rest : List ℕ) (r : Result (List Message) Refusal) → Ends places (offset + length (message-bytes m)) items rest r → Ends (places + 1) offset (message m ∷ items) rest (with-first m r)
+message-ends places offset m items rest (Ok ms) (none, holds) = (none, ap (λ ms. m ∷ ms) holds)
+message-ends places offset m items rest (Err refusal) (at, cause) =
+    (at ∙ omega (arith, length-append (message-bytes m) (file-bytes items)), ⊎-elim inl (λ full. let (m′, later, sized, begins, all) = full .1 in inr (full .0, (m′, later, sized, begins, omega arith))) cause)
 
--- what a record that was read says of the bytes
-read-message-bytes : (offset : ℕ) (bytes body : List ℕ) → record-at offset bytes ≡ Ok (Some (message body)) → Lies bytes × (record-kind bytes ≡ 1) × (record-body bytes ≡ body)
+contradiction : {X : Type 0} {a : Option (Item Message)} {refusal : Refusal} → _≡_ {A = Result (Option (Item Message)) Refusal} (Ok a) (Err refusal) → X
+contradiction e = let z : _≡_ {A = ℕ} 0 1 = cc in absurd (omega arith)
+
+-- what is refused is no message and no comment
+unreadable : (offset : ℕ) (bytes : List ℕ) (refusal : Refusal) → 0 < length bytes → entry-at offset bytes ≡ Err refusal → Unreadable bytes
+unreadable offset bytes refusal some e = (some, no-item)
+  where
+    no-item : (item : Item Message) (later : List ℕ) → Writable item → bytes ≡ item-bytes item ++ later → ⊥
+    no-item (message m) later w is = contradiction (sym (read-message offset m later) ∙ sym (ap (entry-at offset) is) ∙ e)
+    no-item (comment text) later w is = contradiction (sym (read-comment offset text later w) ∙ sym (ap (entry-at offset) is) ∙ e)
+
+-- the record layer's refusal is 1 or 2 at the record's offset, and there are bytes left
+abbrev Blames : ℕ → List ℕ → Result (Option (Item (List ℕ))) Refusal → Type 0
+Blames offset bytes (Ok found) = Unit {0}
+Blames offset bytes (Err refusal) = (refusal .offset ≡ offset + 0) × (refusal .number < 4) × (0 < length bytes)
+
+blames : (offset : ℕ) (bytes : List ℕ) → Blames offset bytes (record-at offset bytes)
 unfolding record-at
-read-message-bytes offset bytes body e = ((grind (arith, tells), grind (arith, tells)), grind (arith, tells), grind (arith, tells))
+blames offset bytes =
+    cond-both (eqb (length bytes) 0) _ _ (Blames offset bytes) (λ e. tt) (λ e.
+    let some : 0 < length bytes = omega (arith, eqb-false (length bytes) 0 e) in
+    cond-both (bad-length bytes) _ _ (Blames offset bytes) (λ _. (omega arith, omega arith, some)) (λ _.
+    cond-both (eqb (record-kind bytes) 1) _ _ (Blames offset bytes) (λ _. tt) (λ _.
+    cond-both (eqb (record-kind bytes) 2) _ _ (Blames offset bytes) (λ _. tt) (λ _. (omega arith, omega arith, some)))))
 
-read-comment-bytes : (offset : ℕ) (bytes text : List ℕ) → record-at offset bytes ≡ Ok (Some (comment text)) → Lies bytes × (record-kind bytes ≡ 2) × (record-body bytes ≡ text)
-unfolding record-at
-read-comment-bytes offset bytes text e = ((grind (arith, tells), grind (arith, tells)), grind (arith, tells), grind (arith, tells))
+-- one record, if the rest is cut
+module _ (offset : ℕ) (bytes : List ℕ) (o : Octets bytes) (rest : ℕ → Result (List Message) Refusal) (later : (n : ℕ) → Lies bytes → Cut n (offset + record-length bytes) (drop (record-length bytes) bytes) (rest n)) where
+  cut-comment : (places : ℕ) (text : List ℕ) → record-at offset bytes ≡ Ok (Some (comment text)) → Cut places offset bytes (rest places)
+  cut-comment places text e =
+      let b = begins-comment offset bytes text o e in
+      let c = later places (read-comment-bytes offset bytes text e .0) in
+      record {
+        items = comment text ∷ c .items;
+        rest = c .rest;
+        writable = (b .writable, c .writable);
+        split = joined-split bytes (comment-bytes text) _ (file-bytes (c .items)) (c .rest) (b .split) (c .split);
+        ends = comment-ends places offset text (c .items) (c .rest) (rest places) (subst (λ n. Ends places (offset + n) (c .items) (c .rest) (rest places)) (b .size) (c .ends));
+      }
 
-read-none-bytes : (offset : ℕ) (bytes : List ℕ) → record-at offset bytes ≡ Ok None → length bytes ≡ 0
-unfolding record-at
-read-none-bytes offset bytes e = grind (arith, tells)
+  module _ (body : List ℕ) (e : record-at offset bytes ≡ Ok (Some (message body))) where
+    cut-placed : (places : ℕ) (full : Bool) → well-formed body ≡ true → eqb places 0 ≡ full → Cut places offset bytes (cond full (Err (refused 4 offset layer.File)) (with-first (message-from body) (rest (places - 1))))
+    cut-placed places true w is =
+        let b = begins-message offset bytes body o e w in
+        cut-here places offset bytes _ (omega arith, inr (refl, (message-from body, drop (record-length bytes) bytes, b .writable, b .split, sym (eqb-true places 0 is))))
+    cut-placed places false w is =
+        let b = begins-message offset bytes body o e w in
+        let c = later (places - 1) (read-message-bytes offset bytes body e .0) in
+        let m = message-from body in
+        let some : places - 1 + 1 ≡ places = omega (arith, eqb-false places 0 is) in
+        record {
+          items = message m ∷ c .items;
+          rest = c .rest;
+          writable = (b .writable, c .writable);
+          split = joined-split bytes (message-bytes m) _ (file-bytes (c .items)) (c .rest) (b .split) (c .split);
+          ends = subst (λ n. Ends n offset (message m ∷ c .items) (c .rest) (with-first m (rest (places - 1)))) some
+              (message-ends (places - 1) offset m (c .items) (c .rest) (rest (places - 1)) (subst (λ n. Ends (places - 1) (offset + n) (c .items) (c .rest) (rest (places - 1))) (b .size) (c .ends)));
+        }
 
-no-messages : {ms : List Message} → _≡_ {A = Result (List Message) Refusal} (Ok []) (Ok ms) → ms ≡ []
-no-messages e = cc
+    cut-message : (places : ℕ) (formed : Bool) → well-formed body ≡ formed → Cut places offset bytes (onward places offset (cond formed (Ok (Some (message (message-from body)))) (Err (refused 3 offset layer.Message))) rest)
+    cut-message places true w = cut-placed places (eqb places 0) w refl
+    cut-message places false w =
+        let lies = read-message-bytes offset bytes body e .0 in
+        let refused-here = ap (parsed offset) e ∙ cond-false (well-formed body) _ _ w in
+        cut-here places offset bytes _ (omega arith, inl (omega arith, unreadable offset bytes _ (omega (arith, lies .0, lies .1)) refused-here))
 
-not-refused : {X : Type 0} {refusal : Refusal} {ms : List Message} → _≡_ {A = Result (List Message) Refusal} (Err refusal) (Ok ms) → X
-not-refused e = let z : _≡_ {A = ℕ} 0 1 = cc in absurd (omega arith)
+  cut-onward : (places : ℕ) (r : Result (Option (Item (List ℕ))) Refusal) → record-at offset bytes ≡ r → Cut places offset bytes (onward places offset (parsed offset r) rest)
+  cut-onward places (Ok None) e = cut-here places offset bytes _ (nil-from-length bytes (read-none-bytes offset bytes e), refl)
+  cut-onward places (Ok (Some (comment text))) e = cut-comment places text e
+  cut-onward places (Ok (Some (message body))) e = cut-message body e places (well-formed body) refl
+  cut-onward places (Err refusal) e =
+      let (at, low, some) = subst (Blames offset bytes) e (blames offset bytes) in
+      cut-here places offset bytes _ (at, inl (low, unreadable offset bytes refusal some (ap (parsed offset) e)))
 
-first-and-rest : (m : Message) (r : Result (List Message) Refusal) (ms : List Message) → with-first m r ≡ Ok ms → (rest : List Message) × (r ≡ Ok rest) × (ms ≡ m ∷ rest)
-first-and-rest m (Ok rest) ms e = (rest, refl, cc)
-first-and-rest m (Err refusal) ms e = not-refused e
-
-made-none : (bytes : List ℕ) (ms : List Message) → length bytes ≡ 0 → ms ≡ [] → Made bytes ms
-made-none bytes ms none is = ([], nil-from-length bytes none, sym is)
-
-made-comment : (offset : ℕ) (bytes text : List ℕ) (ms : List Message) → Octets bytes → record-at offset bytes ≡ Ok (Some (comment text)) → Made (drop (record-length bytes) bytes) ms → Made bytes ms
-made-comment offset bytes text ms o e (items, is, holds) =
-    let (lies, kind, body) = read-comment-bytes offset bytes text e in
-    (comment text ∷ items, sym (record-again bytes o lies) ∙ (λ i. record-bytes (kind i) (body i) ++ is i), holds)
-
-made-message : (offset : ℕ) (bytes body : List ℕ) (ms : List Message) → Octets bytes → record-at offset bytes ≡ Ok (Some (message body)) → well-formed body ≡ true → Made (drop (record-length bytes) bytes) ms → Made bytes (message-from body ∷ ms)
-made-message offset bytes body ms o e w (items, is, holds) =
-    let (lies, kind, same) = read-message-bytes offset bytes body e in
-    let octets = subst Octets same (octets-take (record-length bytes - 4) (drop 4 bytes) (octets-drop 4 bytes o)) in
-    let again = body-again body octets (well-formed-parts body w) in
-    (message (message-from body) ∷ items, sym (record-again bytes o lies) ∙ (λ i. record-bytes (kind i) (same i) ++ is i) ∙ ap (λ b. record-bytes 1 b ++ file-bytes items) (sym again), ap (λ ms. message-from body ∷ ms) holds)
-
-not-full : (full : Bool) (refusal : Refusal) (r : Result (List Message) Refusal) (ms : List Message) → cond full (Err refusal) r ≡ Ok ms → r ≡ Ok ms
-not-full true refusal r ms e = not-refused e
-not-full false refusal r ms e = e
-
--- one record, if the rest is made of items
-module _ (offset : ℕ) (bytes : List ℕ) (o : Octets bytes) (rest : ℕ → Result (List Message) Refusal) (later : (n : ℕ) (ms : List Message) → Lies bytes → rest n ≡ Ok ms → Made (drop (record-length bytes) bytes) ms) where
-  message-first : (places : ℕ) (formed : Bool) (m : Message) (refusal : Refusal) (ms : List Message) → onward places offset (cond formed (Ok (Some (message m))) (Err refusal)) rest ≡ Ok ms → (formed ≡ true) × (more : List Message) × (rest (places - 1) ≡ Ok more) × (ms ≡ m ∷ more)
-  message-first places true m refusal ms got = let (more, after, is) = first-and-rest m (rest (places - 1)) ms (not-full (eqb places 0) _ _ ms got) in (refl, more, after, is)
-  message-first places false m refusal ms got = not-refused got
-
-  made-onward : (places : ℕ) (r : Result (Option (Item (List ℕ))) Refusal) (ms : List Message) → record-at offset bytes ≡ r → onward places offset (parsed offset r) rest ≡ Ok ms → Made bytes ms
-  made-onward places (Ok None) ms e got = made-none bytes ms (read-none-bytes offset bytes e) (no-messages got)
-  made-onward places (Ok (Some (comment text))) ms e got = made-comment offset bytes text ms o e (later places ms (read-comment-bytes offset bytes text e .0) got)
-  made-onward places (Ok (Some (message body))) ms e got =
-      let (formed, more, after, is) = message-first places (well-formed body) (message-from body) _ ms got in
-      subst (Made bytes) (sym is) (made-message offset bytes body more o e formed (later (places - 1) more (read-message-bytes offset bytes body e .0) after))
-  made-onward places (Err refusal) ms e got = not-refused got
-
-made-within : (turns places offset : ℕ) (bytes : List ℕ) (ms : List Message) → length bytes ≤ turns → Octets bytes → messages-within turns places offset bytes ≡ Ok ms → Made bytes ms
+cut-within : (turns places offset : ℕ) (bytes : List ℕ) → length bytes ≤ turns → Octets bytes → Cut places offset bytes (messages-within turns places offset bytes)
 unfolding messages-within
-made-within zero places offset bytes ms h o got = made-none bytes ms (omega arith) (no-messages got)
-made-within (suc turns) places offset bytes ms h o got =
-    made-onward offset bytes o _ (λ n ms′ lies is. made-within turns n (offset + record-length bytes) (drop (record-length bytes) bytes) ms′ (simp length-drop (omega (arith, lies .0))) (octets-drop (record-length bytes) bytes o) is) places (record-at offset bytes) ms refl got
+cut-within zero places offset bytes h o = cut-here places offset bytes _ (nil-from-length bytes (omega arith), refl)
+cut-within (suc turns) places offset bytes h o =
+    cut-onward offset bytes o _ (λ n lies. cut-within turns n (offset + record-length bytes) (drop (record-length bytes) bytes) (simp length-drop (omega (arith, lies .0))) (octets-drop (record-length bytes) bytes o)) places (record-at offset bytes) refl
 
--- what is read was written
-pub read-was-written : (file : List ℕ) (places : ℕ) (ms : List Message) → Octets file → reading file places ≡ Ok ms → Made file ms
-unfolding reading
-read-was-written file places ms o got = made-within (length file) (room places) 0 file ms (omega arith) o (not-full (ltb 32768 (length file)) _ _ ms got)
+-- a file that is not too large, and what was read of it
+cut-file : (file : List ℕ) (places : ℕ) → Octets file → length file ≤ 32768 → Cut (room places) 0 file (reading file places)
+cut-file file places o small = subst (Cut (room places) 0 file) (sym (reading-small file places small)) (cut-within (length file) (room places) 0 file (omega arith) o)
 
 -- what was written is read
 pub written-is-read : (file : List ℕ) (places : ℕ) (items : List (Item Message)) → All Writable items → file ≡ file-bytes items → length file ≤ 32768 → length (messages-of items) ≤ room places → reading file places ≡ Ok (map read-back (messages-of items))
@@ -173,9 +177,17 @@ counted-is : (r : Result (List Message) Refusal) (n : ℕ) → counted 0 r ≡ O
 counted-is (Ok ms) n e = (ms, refl, grind arith)
 counted-is (Err refusal) n e = let z : _≡_ {A = ℕ} 0 1 = cc in absurd (omega arith)
 
--- the two laws of a call of the reader, from what it answers and what it leaves in the table
+counted-refused : (r : Result (List Message) Refusal) (refusal : Refusal) → counted 0 r ≡ Err refusal → r ≡ Err refusal
+counted-refused (Ok ms) refusal e = let z : _≡_ {A = ℕ} 0 1 = cc in absurd (omega arith)
+counted-refused (Err refusal′) refusal e = cc
+
+-- a file that is read is not too large
+small-file : (file : List ℕ) (places : ℕ) (ms : List Message) → reading file places ≡ Ok ms → length file ≤ 32768
+small-file file places ms got = ⊎-elim (λ large. let e = sym (reading-large file places large) ∙ got in let z : _≡_ {A = ℕ} 0 1 = cc in absurd (omega arith)) (λ small. small) (cases-lt 32768 (length file))
+
+-- the laws of a call of the reader, from what it answers and what it leaves in the table
 module _ (file : List ℕ) (before after : List Message) (answer : Result ℕ FileFault) (told : file-answer answer ≡ counted 0 (reading file (length before))) (left : after ≡ filled before (reading file (length before))) where
-  pub law-written-is-read : WrittenIsRead file (length before) answer after
+  law-written-is-read : WrittenIsRead file (length before) answer after
   law-written-is-read items w is small few fits =
       let n = length (messages-of items) in
       let got = written-is-read file (length before) items w is small (omega arith) in
@@ -184,11 +196,30 @@ module _ (file : List ℕ) (before after : List Message) (answer : Result ℕ Fi
         ap (λ t. map meaning (take n t)) (left ∙ ap (filled before) got) ∙ ap (map meaning) (take-at _ _ n count) ∙ meanings items w,
       )
 
-  pub law-read-is-written : Octets file → ReadIsWritten file answer after
+  law-read-is-written : Octets file → ReadIsWritten file answer after
   law-read-is-written o count is =
       let (ms, got, size) = counted-is (reading file (length before)) count (sym told ∙ ap file-answer is) in
-      let (items, bytes, holds) = read-was-written file (length before) ms o got in
-      (items, bytes, holds ∙ sym (ap (take count) (left ∙ ap (filled before) got) ∙ take-at ms _ count (sym size)))
+      let c = subst (Cut (room (length before)) 0 file) got (cut-file file (length before) o (small-file file (length before) ms got)) in
+      (c .items, c .writable, c .split ∙ ap (λ t. file-bytes (c .items) ++ t) (c .ends .0) ∙ append-nil _, c .ends .1 ∙ sym (ap (take count) (left ∙ ap (filled before) got) ∙ take-at ms _ count (sym size)))
+
+  law-first-fault : Octets file → FirstFault file (length before) answer
+  law-first-fault o refusal is small =
+      let got = counted-refused (reading file (length before)) refusal (sym told ∙ is) in
+      let c = subst (Cut (room (length before)) 0 file) got (cut-file file (length before) o small) in
+      (c .items, c .rest, c .writable, c .split, c .ends .0 ∙ zero-add _, c .ends .1)
+
+-- all three of them
+pub record Lawful (file : List ℕ) (before after : List Message) (answer : Result ℕ FileFault) : Type 0 where
+  pub written : WrittenIsRead file (length before) answer after
+  pub read : ReadIsWritten file answer after
+  pub first : FirstFault file (length before) answer
+
+pub lawful : (file : List ℕ) (before after : List Message) (answer : Result ℕ FileFault) → file-answer answer ≡ counted 0 (reading file (length before)) → after ≡ filled before (reading file (length before)) → Octets file → Lawful file before after answer
+lawful file before after answer told left o = record {
+  written = law-written-is-read file before after answer told left;
+  read = law-read-is-written file before after answer told left o;
+  first = law-first-fault file before after answer told left o;
+}
 
 written-whole : (m : Message) (buffer : List ℕ) (n : ℕ) → writing m buffer ≡ Ok n → (n ≡ length (message-bytes m)) × (written m buffer ≡ message-bytes m ++ drop (length (message-bytes m)) buffer)
 written-whole m buffer n e = whole (leb (length (message-bytes m)) (length buffer)) e

@@ -119,22 +119,22 @@ abbrev pub with-first : Message → Result (List Message) Refusal → Result (Li
 with-first m (Ok ms) = Ok (m ∷ ms)
 with-first m (Err refusal) = Err refusal
 
--- one entry, and then the rest of the file; a message for which there is no room is refused
+-- one entry, and then the rest of the file; a message for which no place is left is refused
 abbrev pub onward : ℕ → ℕ → Result (Option (Item Message)) Refusal → (ℕ → Result (List Message) Refusal) → Result (List Message) Refusal
-onward room offset (Ok None) rest = Ok []
-onward room offset (Ok (Some (message m))) rest = cond (eqb room 0) (Err (refused 4 offset layer.File)) (with-first m (rest (room - 1)))
-onward room offset (Ok (Some (comment text))) rest = rest room
-onward room offset (Err refusal) rest = Err refusal
+onward places offset (Ok None) rest = Ok []
+onward places offset (Ok (Some (message m))) rest = cond (eqb places 0) (Err (refused 4 offset layer.File)) (with-first m (rest (places - 1)))
+onward places offset (Ok (Some (comment text))) rest = rest places
+onward places offset (Err refusal) rest = Err refusal
 
 -- the messages of what is left, of at most `turns` records
 unfoldable pub messages-within : ℕ → ℕ → ℕ → List ℕ → Result (List Message) Refusal
-messages-within zero room offset bytes = Ok []
-messages-within (suc turns) room offset bytes =
-    onward room offset (entry-at offset bytes) (λ left. messages-within turns left (offset + record-length bytes) (drop (record-length bytes) bytes))
+messages-within zero places offset bytes = Ok []
+messages-within (suc turns) places offset bytes =
+    onward places offset (entry-at offset bytes) (λ left. messages-within turns left (offset + record-length bytes) (drop (record-length bytes) bytes))
 
--- the messages of what is left, of which there may be `room`: there are no more records than bytes
+-- the messages of what is left, with so many places for them: there are no more records than bytes
 abbrev pub messages-at : ℕ → ℕ → List ℕ → Result (List Message) Refusal
-messages-at room offset bytes = messages-within (length bytes) room offset bytes
+messages-at places offset bytes = messages-within (length bytes) places offset bytes
 
 -- how many messages are taken into a table of so many places
 abbrev pub room : ℕ → ℕ

@@ -2,7 +2,7 @@ ghost use mathlib.Core.Path.{_≡_};
 ghost use mathlib.Core.Bool.{true};
 ghost use lib.ListN.{length};
 ghost use Rattle.std.specs.Results.{isOk};
-ghost use Rattle.wire.specs.Laws.{WrittenIsRead, ReadIsWritten};
+ghost use Rattle.wire.specs.Laws.{WrittenIsRead, ReadIsWritten, FirstFault};
 ghost use Rattle.wire.specs.Reading.{messages-at, room, reading, file-answer, counted, filled, Reads};
 use crate::entries::Entries;
 use crate::entry::Entry;
@@ -59,6 +59,7 @@ pub fn read_messages(file: &[u8], table: &mut [Message]) -> Result<usize, FileFa
     ensures table { λ r. ⌜ now (table .exit) ≡ filled (now (table .entry)) (reading (now (file .entry)) (length (now (table .entry)))) ⌝ }
     ensures written_is_read { λ r. ⌜ WrittenIsRead (now (file .entry)) (length (now (table .entry))) r (now (table .exit)) ⌝ }
     ensures read_is_written { λ r. ⌜ ReadIsWritten (now (file .entry)) r (now (table .exit)) ⌝ }
+    ensures first_fault { λ r. ⌜ FirstFault (now (file .entry)) (length (now (table .entry))) r ⌝ }
 {
     if file.len() > MAX_FILE {
         return Err(FileFault::Capacity { offset: MAX_FILE });

@@ -4,6 +4,7 @@ mod entries;
 mod entry;
 mod fault;
 mod file_layer;
+mod layout;
 mod message;
 mod message_layer;
 mod record;

@@ -9,16 +9,13 @@ use crate::entries::Entries;
 use crate::entry::Entry;
 use crate::fault::MessageFault;
 use crate::fault::MessageFaultFromRecordFault;
+use crate::layout::BODY;
+use crate::layout::SIGNATURE;
 use crate::message::MAX_SIGNATURES;
 use crate::message::Message;
 use crate::message::Signature;
 use crate::record::Record;
 use crate::records::Records;
-
-// What a body has before its signatures, and what each signature takes.
-const FIXED: usize = 12;
-
-const SIGNATURE: usize = 9;
 
 const BLANK: Signature = Signature { signer: 0, tag: 0 };
 
@@ -57,7 +54,7 @@ fn signatures_in(body: &[u8], count: usize) -> [Signature; MAX_SIGNATURES]
 {
     let mut signatures = [BLANK; MAX_SIGNATURES];
     for i in 0..count {
-        signatures[i] = signature_at(body, FIXED + SIGNATURE * i);
+        signatures[i] = signature_at(body, BODY + SIGNATURE * i);
     }
     signatures
 }
@@ -65,11 +62,11 @@ fn signatures_in(body: &[u8], count: usize) -> [Signature; MAX_SIGNATURES]
 fn is_well_formed(body: &[u8]) -> bool
     ensures { λ r. ⌜ r ≡ well-formed (now (body .entry)) ⌝ }
 {
-    if body.len() < FIXED {
+    if body.len() < BODY {
         return false;
     }
     let count = usize::from(body[3]);
-    count <= MAX_SIGNATURES && body.len() == FIXED + SIGNATURE * count
+    count <= MAX_SIGNATURES && body.len() == BODY + SIGNATURE * count
 }
 
 fn message_in(body: &[u8]) -> Message

@@ -1,11 +1,9 @@
 ghost use mathlib.Core.Path.{_≡_};
 ghost use Rattle.wire.specs.Reading.{record-answer, record-at, records-left, passed};
 use crate::fault::RecordFault;
+use crate::layout::HEADER;
 use crate::record::Record;
 use crate::records::Records;
-
-// A record begins with its length and its kind, two bytes each.
-const HEADER: usize = 4;
 
 impl<'a> Records<'a> {
     pub fn new(file: &'a [u8]) -> Self

@@ -7,13 +7,10 @@ ghost use Rattle.wire.specs.Format.{signature-bytes};
 ghost use Rattle.wire.specs.Laws.{ReadBack};
 ghost use Rattle.wire.specs.Writing.{write-answer, writing, written};
 use crate::fault::ShortBuffer;
+use crate::layout::SIGNATURE;
+use crate::layout::UNSIGNED;
 use crate::message::Message;
 use crate::message::Signature;
-
-// What a message's record has before its signatures, and what each signature takes.
-const FIXED: usize = 16;
-
-const SIGNATURE: usize = 9;
 
 // Copies bytes to a place of the buffer.
 fn put(buffer: &mut [u8], at: usize, bytes: &[u8])
@@ -38,7 +35,7 @@ fn put_signatures(buffer: &mut [u8], chain: &[Signature])
     ensures { λ _. ⌜ now (buffer .exit) ≡ paste (now (buffer .entry)) 16 (joined signature-bytes (now (chain .entry))) (9 * length (now (chain .entry))) ⌝ }
 {
     for (i, signature) in chain.iter().enumerate() {
-        put_signature(buffer, FIXED + SIGNATURE * i, signature);
+        put_signature(buffer, UNSIGNED + SIGNATURE * i, signature);
     }
 }
 
@@ -49,7 +46,7 @@ pub fn write_message(message: &Message, buffer: &mut [u8]) -> Result<usize, Shor
     ensures read_back { λ r. ⌜ ReadBack (now (message .entry)) r (now (buffer .exit)) ⌝ }
 {
     let chain = message.chain();
-    let length = FIXED + SIGNATURE * chain.len();
+    let length = UNSIGNED + SIGNATURE * chain.len();
     if buffer.len() < length {
         return Err(ShortBuffer { needed: length });
     }

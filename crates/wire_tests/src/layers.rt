@@ -4,6 +4,7 @@ use crate::samples::tells;
 use std::test::*;
 use wire::Entries;
 use wire::Entry;
+use wire::Layer;
 use wire::Message;
 use wire::Record;
 use wire::Records;
@@ -30,7 +31,7 @@ fn records_one_after_the_other() -> Result<(), Fail> {
     for _ in 0..2 {
         match records.next() {
             Ok(_) => return Err(Fail::new("a record of kind 3")),
-            Err(fault) => tells(fault.refusal(), 2, 10, "record")?,
+            Err(fault) => tells(fault.refusal(), 2, 10, Layer::Record)?,
         }
         check_eq(records.offset(), 10)?;
     }
@@ -50,7 +51,7 @@ fn entries_stop_at_the_first_fault() -> Result<(), Fail> {
         check_eq(entries.offset(), 6)?;
         match entries.next() {
             Ok(_) => return Err(Fail::new("a message without its body")),
-            Err(fault) => tells(fault.refusal(), 3, 6, "message")?,
+            Err(fault) => tells(fault.refusal(), 3, 6, Layer::Message)?,
         }
     }
     check_eq(entries.offset(), 6)

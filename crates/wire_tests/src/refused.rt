@@ -1,13 +1,14 @@
 use crate::samples::FILLER;
 use crate::samples::refuses;
 use std::test::*;
+use wire::Layer;
 
 fn record(file: &[u8], number: u8, offset: usize) -> Result<(), Fail> {
-    refuses(file, &mut [FILLER; 2], number, offset, "record")
+    refuses(file, &mut [FILLER; 2], number, offset, Layer::Record)
 }
 
 fn message(file: &[u8], offset: usize) -> Result<(), Fail> {
-    refuses(file, &mut [FILLER; 2], 3, offset, "message")
+    refuses(file, &mut [FILLER; 2], 3, offset, Layer::Message)
 }
 
 #[test]

@@ -3,11 +3,13 @@ use wire::Layer;
 use wire::MAX_SIGNATURES;
 use wire::Message;
 use wire::Refusal;
+use wire::RefusalDebug;
+use wire::RefusalPartialEq;
 use wire::Signature;
 use wire::read_messages;
 
 // What a table holds before it is read into.
-pub const FILLER: Message = Message {
+pub(crate) const FILLER: Message = Message {
     round: 201,
     sender: 202,
     receiver: 203,
@@ -20,7 +22,7 @@ pub const FILLER: Message = Message {
 };
 
 // A message of which each byte is zero, with no signatures.
-pub const ZERO: Message = Message {
+pub(crate) const ZERO: Message = Message {
     round: 0,
     sender: 0,
     receiver: 0,
@@ -30,7 +32,7 @@ pub const ZERO: Message = Message {
 };
 
 // A message of which each field differs from the others, with one signature.
-pub fn distinct() -> Message {
+pub(crate) fn distinct() -> Message {
     let mut message = Message {
         round: 21,
         sender: 22,
@@ -46,10 +48,10 @@ pub fn distinct() -> Message {
     message
 }
 
-pub const DISTINCT_BYTES: &[u8; 25] =
+pub(crate) const DISTINCT_BYTES: &[u8; 25] =
     b"\x19\0\x01\0\x15\x16\x17\x01\x01\x02\x03\x04\x05\x06\x07\x08\x09\x0b\x0c\x0d\x0e\x0f\x10\x11\x12";
 
-pub fn same(left: &Message, right: &Message) -> Result<(), Fail> {
+pub(crate) fn same(left: &Message, right: &Message) -> Result<(), Fail> {
     check_eq(left.round, right.round)?;
     check_eq(left.sender, right.sender)?;
     check_eq(left.receiver, right.receiver)?;
@@ -62,38 +64,38 @@ pub fn same(left: &Message, right: &Message) -> Result<(), Fail> {
     Ok(())
 }
 
-pub fn unchanged(table: &[Message]) -> Result<(), Fail> {
+pub(crate) fn unchanged(table: &[Message]) -> Result<(), Fail> {
     for message in table {
         same(message, &FILLER)?;
     }
     Ok(())
 }
 
-pub fn reads(file: &[u8], table: &mut [Message], count: usize) -> Result<(), Fail> {
+pub(crate) fn reads(file: &[u8], table: &mut [Message], count: usize) -> Result<(), Fail> {
     match read_messages(file, table) {
         Ok(read) => check_eq(read, count),
         Err(_) => Err(Fail::new("the file was refused")),
     }
 }
 
-pub fn tells(refusal: Refusal, number: u8, offset: usize, layer: &str) -> Result<(), Fail> {
-    check_eq(refusal.number, number)?;
-    check_eq(refusal.offset, offset)?;
-    let told = match refusal.layer {
-        Layer::Record => "record",
-        Layer::Message => "message",
-        Layer::File => "file",
-    };
-    check_eq(told, layer)
+pub(crate) fn tells(refusal: Refusal, number: u8, offset: usize, layer: Layer) -> Result<(), Fail> {
+    check_eq(
+        refusal,
+        Refusal {
+            number,
+            offset,
+            layer,
+        },
+    )
 }
 
-// The table is marked before, and is to be as it was afterwards.
-pub fn refuses(
+// The table is to be as it was.
+pub(crate) fn refuses(
     file: &[u8],
     table: &mut [Message],
     number: u8,
     offset: usize,
-    layer: &str,
+    layer: Layer,
 ) -> Result<(), Fail> {
     match read_messages(file, table) {
         Ok(_) => return Err(Fail::new("the file was read")),
@@ -103,7 +105,7 @@ pub fn refuses(
 }
 
 // Makes a row of messages with no signatures of a file of zeros; their rounds count them.
-pub fn put_messages(file: &mut [u8]) {
+pub(crate) fn put_messages(file: &mut [u8]) {
     for i in 0..file.len() / 16 {
         file[16 * i] = 16;
         file[16 * i + 2] = 1;

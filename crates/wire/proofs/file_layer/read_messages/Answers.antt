@@ -9,7 +9,7 @@ use Rattle.std.proofs.shelf.Results.{err-from-errBy}
 use Rattle.wire.specs.Bytes.{Octets}
 use Rattle.wire.specs.Reading.{reading, messages-at, counted, filled, file-answer}
 use Rattle.wire.proofs.FileLaws.{reading-large, reading-small, filled-refused}
-use Rattle.wire.proofs.WholeFileLaws.{law-written-is-read, law-read-is-written}
+use Rattle.wire.proofs.WholeFileLaws.{lawful}
 use Rattle.wire.proofs.file_layer.read_messages.Needs as need
 
 octets : (file : List ℕ) → ((i : ℕ) → Fits w8 (getD file i 0)) → Octets file
@@ -22,7 +22,8 @@ returns-then-file-gt-MAX-FILE c =
     let large = reading-large file (length table) (c .if-file-gt-MAX-FILE .taken) in
     let told = sym (ap (counted 0) large) in
     let left = sym (ap (filled table) large) in
-    record { answer = told; table = left; written-is-read = law-written-is-read file table _ _ told left; read-is-written = law-read-is-written file table _ _ told left (octets file (c .typed .file)) }
+    let l = lawful file table _ _ told left (octets file (c .typed .file)) in
+    record { answer = told; table = left; written-is-read = l .written; read-is-written = l .read; first-fault = l .first }
 
 pub returns-in-Break-count : need.returns-in-Break-count
 returns-in-Break-count c =
@@ -33,7 +34,8 @@ returns-in-Break-count c =
     let same = c .in-Break-count .ensures tt ∙ ap (λ n. counted 0 (messages-at n 0 file)) (c .min .ensures) ∙ sym (ap (counted 0) small) in
     let told : file-answer (c .from-residual .result) ≡ counted 0 (reading file (length table)) = rw (p .1, p .2) same in
     let left = sym (filled-refused table (reading file (length table)) _ same) in
-    record { answer = told; table = left; written-is-read = law-written-is-read file table _ _ told left; read-is-written = law-read-is-written file table _ _ told left (octets file (c .typed .file)) }
+    let l = lawful file table _ _ told left (octets file (c .typed .file)) in
+    record { answer = told; table = left; written-is-read = l .written; read-is-written = l .read; first-fault = l .first }
 
 pub returns : need.returns
 returns c =
@@ -42,4 +44,5 @@ returns c =
     let small = reading-small file (length table) (c .if-file-gt-MAX-FILE .left) in
     let told = c .in-Continue-count .ensures tt ∙ ap (λ n. counted 0 (messages-at n 0 file)) (c .min .ensures) ∙ sym (ap (counted 0) small) in
     let left = c .fill .ensures .table ∙ sym (ap (filled table) small) in
-    record { answer = told; table = left; written-is-read = law-written-is-read file table _ _ told left; read-is-written = law-read-is-written file table _ _ told left (octets file (c .typed .file)) }
+    let l = lawful file table _ _ told left (octets file (c .typed .file)) in
+    record { answer = told; table = left; written-is-read = l .written; read-is-written = l .read; first-fault = l .first }
