@@ -20,9 +20,6 @@ pub number-two-at : (bs : List ℕ) (k : ℕ) → k + 2 ≤ length bs → getD b
 number-two-at bs k h = rw (← getD-drop k bs 0 0, ← getD-drop k bs 1 0) (number-two (drop k bs) (simp length-drop (omega arith)))
 
 -- the bytes that the code takes a number apart into
-pub little-two : (n : ℕ) → n % 256 ∷ n / 256 % 256 ∷ [] ≡ little 2 n
-little-two n = refl
-
 pub little-eight : (n : ℕ) → n % 256 ∷ n / 256 % 256 ∷ n / 65536 % 256 ∷ n / 16777216 % 256 ∷ n / 4294967296 % 256 ∷ n / 1099511627776 % 256 ∷ n / 281474976710656 % 256 ∷ n / 72057594037927936 % 256 ∷ [] ≡ little 8 n
 little-eight n = simp div-div-eq-div-mul
 

@@ -11,7 +11,7 @@ use Rattle.depot_turn.proofs.text.outcomes_text.Needs as need
 
 pub loop-node-again : need.loop-node-again
 loop-node-again c =
-    let line = c .as-str .ensures .value ∙ c .in-Continue-line .ensures tt in
+    let line : c .as-str .result .now ≡ node-line (c .args .roster .now) (c .loop-node .node) (getD (c .args .outcomes .now) (c .loop-node .node) 0) = c .as-str .ensures .value ∙ c .in-Continue-line .ensures tt in
     c .in-Continue-push-str .ensures tt .bytes ∙ (λ i. c .loop-node .inv i ++ line i) ∙ lines-more (λ node. node-line (c .args .roster .now) node (getD (c .args .outcomes .now) node 0)) (codes "box,state,outcome" ++ newline) (c .loop-node .node)
 
 pub returns : need.returns

@@ -47,7 +47,9 @@ loop-entry-again c =
 pub returns-then-count-most : need.returns-then-count-most
 returns-then-count-most c =
     let none : c .args .most - c .loop-entry .count ≡ 0 = omega arith in
-    ap (λ o. Err (refused 4 o layer.File)) (c .offset-offset .ensures) ∙ (sym (c .loop-entry .inv .3 ∙ ap (counted _) (no-room (went (at·returns-then-count-most c .In-Some)) _ _ (ap entry-content (c .in-Message .is)) none)))
+    let full = sym (c .loop-entry .inv .3 ∙ ap (counted _) (no-room (went (at·returns-then-count-most c .In-Some)) _ _ (ap entry-content (c .in-Message .is)) none)) in
+    let told : Err (refused 4 (c .offset-offset .result) layer.File) ≡ counted 0 (messages-at (c .args .most) 0 (c .args .file .now)) = ap (λ o. Err (refused 4 o layer.File)) (c .offset-offset .ensures) ∙ full in
+    told
 
 pub loop-entry-less-in-Message : need.loop-entry-less-in-Message
 loop-entry-less-in-Message c = falls (went (at·loop-entry-less-in-Message c .In-Some)) (c .loop-entry .inv .2)

@@ -1,13 +1,14 @@
 use mathlib.Core.List.{List}
 use mathlib.Core.Path.{_≡_, sym, ap, _∙_}
 use Prim.Native.Nat.{ℕ, _<_}
+use native.Mathlib.Omega.{arith}
 use lib.ListN.{length, getD}
 use mir.Syntax.{w8}
 use mir.Val.{Fits}
 use Rattle.std.proofs.shelf.Elements.{all-from-getD}
 use Rattle.std.proofs.shelf.Results.{err-from-errBy}
 use Rattle.wire.specs.Bytes.{Octets}
-use Rattle.wire.specs.Reading.{reading, messages-at, counted, filled, file-answer}
+use Rattle.wire.specs.Reading.{reading, messages-at, room, counted, filled, file-answer}
 use Rattle.wire.proofs.FileLaws.{reading-large, reading-small, filled-refused}
 use Rattle.wire.proofs.WholeFileLaws.{lawful}
 use Rattle.wire.proofs.file_layer.read_messages.Needs as need
@@ -30,8 +31,9 @@ returns-in-Break-count c =
     let p = err-from-errBy (c .from-residual .result) (c .from-residual .ensures .1) in
     let file = c .args .file .now in
     let table = c .args .table .now in
+    let most : c .min .result ≡ room (length table) = omega (arith, c .min .ensures) in
     let small = reading-small file (length table) (c .if-file-gt-MAX-FILE .left) in
-    let same = c .in-Break-count .ensures tt ∙ ap (λ n. counted 0 (messages-at n 0 file)) (c .min .ensures) ∙ sym (ap (counted 0) small) in
+    let same = c .in-Break-count .ensures tt ∙ ap (λ n. counted 0 (messages-at n 0 file)) most ∙ sym (ap (counted 0) small) in
     let told : file-answer (c .from-residual .result) ≡ counted 0 (reading file (length table)) = rw (p .1, p .2) same in
     let left = sym (filled-refused table (reading file (length table)) _ same) in
     let l = lawful file table _ _ told left (octets file (c .typed .file)) in
@@ -41,8 +43,9 @@ pub returns : need.returns
 returns c =
     let file = c .args .file .now in
     let table = c .args .table .now in
+    let most : c .min .result ≡ room (length table) = omega (arith, c .min .ensures) in
     let small = reading-small file (length table) (c .if-file-gt-MAX-FILE .left) in
-    let told = c .in-Continue-count .ensures tt ∙ ap (λ n. counted 0 (messages-at n 0 file)) (c .min .ensures) ∙ sym (ap (counted 0) small) in
+    let told = c .in-Continue-count .ensures tt ∙ ap (λ n. counted 0 (messages-at n 0 file)) most ∙ sym (ap (counted 0) small) in
     let left = c .fill .ensures .table ∙ sym (ap (filled table) small) in
     let l = lawful file table _ _ told left (octets file (c .typed .file)) in
     record { answer = told; table = left; written-is-read = l .written; read-is-written = l .read; first-fault = l .first }

@@ -66,8 +66,10 @@ returns c =
     record {
       answer =
           elim (c .match-from-le-bytes .came) [
-            | in-1 w ↦ ap (λ r. Ok (Some (content r))) (w .record-is) ∙ ap (λ b. Ok (Some (message b))) body ∙ record-message offset (left a) (omega arith) (omega arith) (omega arith) (omega (arith, w .in-1 .is))
-            | in-2 w ↦ ap (λ r. Ok (Some (content r))) (w .record-is) ∙ ap (λ b. Ok (Some (comment b))) body ∙ record-comment offset (left a) (omega arith) (omega arith) (omega arith) (omega (arith, w .in-2 .is))
+            | in-1 w ↦ let held : content (c .match-from-le-bytes .record) ≡ message (take (c .from-length .result - 4) (drop 4 (left a))) = ap content (w .record-is) in
+                ap (λ i. Ok (Some i)) (held ∙ ap message body) ∙ record-message offset (left a) (omega arith) (omega arith) (omega arith) (omega (arith, w .in-1 .is))
+            | in-2 w ↦ let held : content (c .match-from-le-bytes .record) ≡ comment (take (c .from-length .result - 4) (drop 4 (left a))) = ap content (w .record-is) in
+                ap (λ i. Ok (Some i)) (held ∙ ap comment body) ∙ record-comment offset (left a) (omega arith) (omega arith) (omega arith) (omega (arith, w .in-2 .is))
           ] ∙ ap (record-at offset) (cut a);
       moves-on = ap (λ n. offset + n) (long ∙ ap record-length (cut a));
       same-file = refl;
