@@ -1,2 +1,5 @@
+pub mod RecordFacts
+pub mod RequestFacts
 pub mod RosterFacts
 pub mod SameRosters
+pub mod SigningFacts

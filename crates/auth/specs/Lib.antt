@@ -1,4 +1,9 @@
+pub mod Ideal
 pub mod Lists
+pub mod Mac
 pub mod Made
+pub mod Recorded
 pub mod Rosters
+pub mod Signing
+pub mod SigningLaws
 pub mod Tables

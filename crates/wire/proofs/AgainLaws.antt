@@ -11,11 +11,11 @@ use Rattle.std.specs.shelf.Lists.{All, joined}
 use Rattle.std.proofs.shelf.Lists.{length-append, length-take, length-take-le, length-drop, take-at, take-append-drop, drop-drop, nil-from-length}
 use Rattle.std.proofs.shelf.Ways.{tells}
 use Rattle.wire.specs.declared.message.Message.{Message}
-use Rattle.wire.specs.Bytes.{Octets, little, number}
+use Rattle.bytes.specs.Bytes.{Octets, little, number}
 use Rattle.wire.specs.Format.{Item, message, comment, chain, signature-bytes, body-bytes, record-bytes, message-bytes, comment-bytes, item-bytes}
 use Rattle.wire.specs.Reading.{record-at, record-length, record-kind, record-body, signatures-from, blank, message-from, well-formed}
 use Rattle.wire.specs.Laws.{Sized, Writable}
-use Rattle.wire.proofs.ByteLaws.{little-first, number-below, eight-below, octet-at, octets-take, octets-drop}
+use Rattle.bytes.proofs.ByteLaws.{little-first, first-below, octet-at, octets-take, octets-drop}
 use Rattle.wire.proofs.FileLaws.{Lies}
 use Rattle.wire.proofs.SignatureLaws.{length-signatures}
 
@@ -75,7 +75,7 @@ read-none-bytes offset bytes e = grind (arith, tells)
 sized-signatures : (k : ℕ) (bytes : List ℕ) → length bytes ≡ 9 * k → Octets bytes → All (λ s. (s .signer < 256) × (s .tag < 2 ^ 64)) (signatures-from k bytes)
 sized-signatures zero bytes h o = tt
 sized-signatures (suc k) bytes h o =
-    let tag = eight-below (drop 1 bytes) (simp length-drop (omega arith)) (octets-drop 1 bytes o) in
+    let tag = first-below 8 (drop 1 bytes) (octets-drop 1 bytes o) in
     let rest : length (drop 9 bytes) ≡ 9 * k = simp length-drop (omega arith) in
     ((octet-at bytes 0 (omega arith) o, tag), sized-signatures k (drop 9 bytes) rest (octets-drop 9 bytes o))
 
@@ -90,7 +90,7 @@ sized-body body o (long, few, size) =
       round = octet-at body 0 (omega arith) o;
       sender = octet-at body 1 (omega arith) o;
       receiver = octet-at body 2 (omega arith) o;
-      value = eight-below (drop 4 body) (simp length-drop (omega arith)) (octets-drop 4 body o);
+      value = first-below 8 (drop 4 body) (octets-drop 4 body o);
       signed = subst (All (λ s. (s .signer < 256) × (s .tag < 2 ^ 64))) (sym signed) (sized-signatures c (drop 12 body) rest (octets-drop 12 body o));
     }
 
@@ -109,7 +109,7 @@ pub begins-comment : (offset : ℕ) (bytes text : List ℕ) → Octets bytes →
 begins-comment offset bytes text o e =
     let (lies, kind, body) = read-comment-bytes offset bytes text e in
     let split : bytes ≡ comment-bytes text ++ drop (record-length bytes) bytes = sym (record-again bytes o lies) ∙ (λ i. record-bytes (kind i) (body i) ++ drop (record-length bytes) bytes) in
-    let below : record-length bytes < 65536 = subst (λ n. number (take 2 bytes) < 256 ^ n) (length-take-le 2 bytes (omega arith)) (number-below (take 2 bytes) (octets-take 2 bytes o)) in
+    let below : record-length bytes < 65536 = first-below 2 bytes o in
     record { writable = omega (arith, size-of bytes (comment text) lies split); split = split; size = size-of bytes (comment text) lies split }
 
 pub begins-message : (offset : ℕ) (bytes body : List ℕ) → Octets bytes → record-at offset bytes ≡ Ok (Some (message body)) → well-formed body ≡ true → Begins bytes (message (message-from body))

@@ -12,11 +12,11 @@ use Rattle.std.proofs.shelf.Lists.{length-append, length-take, take-at, drop-at
 use Rattle.std.proofs.shelf.Tests.{and-from, le-leb, eq-eqb, cond-true}
 use Rattle.wire.specs.declared.message.Signature.{Signature}
 use Rattle.wire.specs.declared.message.Message.{Message}
-use Rattle.wire.specs.Bytes.{little, number}
+use Rattle.bytes.specs.Bytes.{little, number}
 use Rattle.wire.specs.Format.{message, comment, meaning, chain, signature-bytes, body-bytes, record-bytes, message-bytes, comment-bytes}
 use Rattle.wire.specs.Reading.{record-length, record-kind, record-body, parsed, entry-at, signatures-from, blank, message-from, well-formed}
 use Rattle.wire.specs.Laws.{Sized}
-use Rattle.wire.proofs.ByteLaws.{number-little}
+use Rattle.bytes.proofs.ByteLaws.{number-little}
 use Rattle.wire.proofs.RecordLaws.{record-message, record-comment}
 use Rattle.wire.proofs.SignatureLaws.{length-signatures}
 use Rattle.wire.proofs.WritingLaws.{length-signature-bytes}

@@ -1,5 +1,4 @@
 pub mod AgainLaws
-pub mod ByteLaws
 pub mod FileLaws
 pub mod FormatLaws
 pub mod RecordLaws

@@ -7,7 +7,7 @@ use native.Mathlib.Numerals.{add-one}
 use native.Mathlib.Omega.{arith}
 use lib.ListN.{length, getD, take, drop, set, replicate}
 use Rattle.std.proofs.shelf.Lists.{drop-drop, getD-drop, set-at}
-use Rattle.wire.specs.Bytes.{number}
+use Rattle.bytes.specs.Bytes.{number}
 use Rattle.wire.specs.Reading.{signature-from, signatures-from, blank}
 
 pub length-signatures : (k : ℕ) (bytes : List ℕ) → length (signatures-from k bytes) ≡ k

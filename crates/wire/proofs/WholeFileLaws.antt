@@ -20,13 +20,13 @@ use Rattle.wire.specs.declared.fault.Layer.the-variants as layer
 use Rattle.wire.specs.declared.fault.Refusal.{Refusal}
 use Rattle.wire.specs.declared.fault.ShortBuffer.{ShortBuffer}
 use Rattle.wire.specs.declared.message.Message.{Message}
-use Rattle.wire.specs.Bytes.{Octets, number}
+use Rattle.bytes.specs.Bytes.{Octets, number}
 use Rattle.wire.specs.Faults.{refused}
 use Rattle.wire.specs.Format.{Item, message, comment, meaning, chain, body-bytes, message-bytes, comment-bytes, item-bytes, file-bytes}
 use Rattle.wire.specs.Reading.{bad-length, record-at, record-length, record-kind, parsed, entry-at, message-from, well-formed, with-first, onward, messages-within, messages-at, room, reading, file-answer, counted, filled}
 use Rattle.wire.specs.Laws.{Writable, messages-of, WrittenIsRead, ReadIsWritten, Unreadable, Overfull, FirstFault, ReadBack}
 use Rattle.wire.specs.Writing.{Shortage, writing, written, write-answer}
-use Rattle.wire.proofs.ByteLaws.{octets-drop}
+use Rattle.bytes.proofs.ByteLaws.{octets-drop}
 use Rattle.wire.proofs.FileLaws.{Lies, at-end, at-comment, at-message, reading-large, reading-small}
 use Rattle.wire.proofs.FormatLaws.{read-rest, read-comment, read-message, read-back, read-back-means, chain-short}
 use Rattle.wire.proofs.RecordLaws.{record-none}

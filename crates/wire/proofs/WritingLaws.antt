@@ -11,7 +11,7 @@ use Rattle.std.proofs.shelf.Edits.{paste-paste, paste-all}
 use Rattle.std.proofs.shelf.Lists.{length-append, joined-more, take-more, length-take-le}
 use Rattle.wire.specs.declared.message.Signature.{Signature}
 use Rattle.wire.specs.declared.message.Message.{Message}
-use Rattle.wire.specs.Bytes.{little}
+use Rattle.bytes.specs.Bytes.{little}
 use Rattle.wire.specs.Format.{chain, signature-bytes, body-bytes, message-bytes}
 
 pub wrote-more : (d d₁ d₂ : List ℕ) (at n place m : ℕ) (s t : List ℕ) → d₁ ≡ paste d at s n → d₂ ≡ paste d₁ place t m → place ≡ at + n → n ≡ length s → m ≡ length t → at ≤ length d → d₂ ≡ paste d at (s ++ t) (n + m)

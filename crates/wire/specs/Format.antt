@@ -5,7 +5,7 @@ use lib.ListN.{length, take}
 use Rattle.std.specs.shelf.Lists.{joined}
 use Rattle.wire.specs.declared.message.Signature.{Signature}
 use Rattle.wire.specs.declared.message.Message.{Message}
-use Rattle.wire.specs.Bytes.{little}
+use Rattle.bytes.specs.Bytes.{little}
 
 -- the signatures of a message that mean something: the first `count`, and 16 at the most
 abbrev pub chain : Message → List Signature

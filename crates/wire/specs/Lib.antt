@@ -1,4 +1,3 @@
-pub mod Bytes
 pub mod Faults
 pub mod Format
 pub mod Reading

@@ -20,7 +20,7 @@ use Rattle.wire.specs.declared.record.Record.the-variants as a-record
 use Rattle.wire.specs.declared.entry.Entry.{Entry}
 use Rattle.wire.specs.declared.entry.Entry.the-variants as an-entry
 use Rattle.wire.specs.declared.records.Records.{Records}
-use Rattle.wire.specs.Bytes.{number}
+use Rattle.bytes.specs.Bytes.{number}
 use Rattle.wire.specs.Faults.{refused, record-refusal, message-refusal, file-refusal}
 use Rattle.wire.specs.Format.{Item, message, comment}
 

@@ -2,8 +2,7 @@ ghost use mathlib.Core.Path.{_≡_};
 ghost use mathlib.Core.Bool.{true};
 ghost use mathlib.Core.List.{_++_};
 ghost use Prim.Native.Nat.{_+_, _-_, _*_, _≤_};
-ghost use lib.ListN.{length, take, drop, replicate};
-ghost use Rattle.wire.specs.Bytes.{number};
+ghost use lib.ListN.{length, drop, replicate};
 ghost use Rattle.wire.specs.Reading.{blank, signature-from, signatures-from, message-from, well-formed, entry-answer, entry-at, records-left, passed};
 use crate::entries::Entries;
 use crate::entry::Entry;
@@ -16,25 +15,9 @@ use crate::message::Message;
 use crate::message::Signature;
 use crate::record::Record;
 use crate::records::Records;
+use bytes::read_u64;
 
 const BLANK: Signature = Signature { signer: 0, tag: 0 };
-
-fn number_at(bytes: &[u8], at: usize) -> u64
-    requires { ⌜ at + 8 ≤ length (now bytes) ⌝ }
-    ensures { λ r. ⌜ r ≡ number (take 8 (drop at (now (bytes .entry)))) ⌝ }
-{
-    let part = &bytes[at..at + 8];
-    u64::from_le_bytes([
-        part[0],
-        part[1],
-        part[2],
-        part[3],
-        part[4],
-        part[5],
-        part[6],
-        part[7],
-    ])
-}
 
 fn signature_at(bytes: &[u8], at: usize) -> Signature
     requires { ⌜ at + 9 ≤ length (now bytes) ⌝ }
@@ -42,7 +25,7 @@ fn signature_at(bytes: &[u8], at: usize) -> Signature
 {
     Signature {
         signer: bytes[at],
-        tag: number_at(bytes, at + 1),
+        tag: read_u64(&bytes[at + 1..]),
     }
 }
 
@@ -79,7 +62,7 @@ fn message_in(body: &[u8]) -> Message
         sender: body[1],
         receiver: body[2],
         count,
-        value: number_at(body, 4),
+        value: read_u64(&body[4..]),
         signatures: signatures_in(body, usize::from(count)),
     }
 }

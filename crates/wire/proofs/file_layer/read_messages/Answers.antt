@@ -1,20 +1,12 @@
-use mathlib.Core.List.{List}
 use mathlib.Core.Path.{_≡_, sym, ap, _∙_}
-use Prim.Native.Nat.{ℕ, _<_}
 use native.Mathlib.Omega.{arith}
-use lib.ListN.{length, getD}
-use mir.Syntax.{w8}
-use mir.Val.{Fits}
-use Rattle.std.proofs.shelf.Elements.{all-from-getD}
+use lib.ListN.{length}
 use Rattle.std.proofs.shelf.Results.{err-from-errBy}
-use Rattle.wire.specs.Bytes.{Octets}
+use Rattle.bytes.proofs.ByteLaws.{octets}
 use Rattle.wire.specs.Reading.{reading, messages-at, room, counted, filled, file-answer}
 use Rattle.wire.proofs.FileLaws.{reading-large, reading-small, filled-refused}
 use Rattle.wire.proofs.WholeFileLaws.{lawful}
 use Rattle.wire.proofs.file_layer.read_messages.Needs as need
-
-octets : (file : List ℕ) → ((i : ℕ) → Fits w8 (getD file i 0)) → Octets file
-octets file fits = all-from-getD (λ b. b < 256) file 0 (λ i _. fits i .fits)
 
 pub returns-then-file-gt-MAX-FILE : need.returns-then-file-gt-MAX-FILE
 returns-then-file-gt-MAX-FILE c =

@@ -4,8 +4,8 @@ use native.Mathlib.Omega.{arith}
 use Prim.Native.Nat.{_+_}
 use lib.ListN.{length}
 use lib.Seq.{paste}
-use Rattle.wire.specs.Bytes.{little}
-use Rattle.wire.proofs.ByteLaws.{little-eight}
+use Rattle.bytes.specs.Bytes.{little}
+use Rattle.bytes.proofs.ByteLaws.{little-eight}
 use Rattle.wire.proofs.WritingLaws.{wrote-more}
 use Rattle.wire.proofs.writing.put_signature.Needs as need
 

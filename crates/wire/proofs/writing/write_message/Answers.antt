@@ -7,7 +7,7 @@ use Rattle.std.specs.declared.result.Result.the-variants.{Ok, Err}
 use Rattle.std.proofs.shelf.Tests.{le-leb, lt-leb, cond-true, cond-false}
 use Rattle.wire.specs.Writing.{writing, written}
 use Rattle.wire.specs.Format.{message-bytes}
-use Rattle.wire.proofs.ByteLaws.{little-eight}
+use Rattle.bytes.proofs.ByteLaws.{little-eight}
 use Rattle.wire.proofs.WholeFileLaws.{law-read-back}
 use Rattle.wire.proofs.WritingLaws.{length-message-bytes, message-put}
 use Rattle.wire.proofs.writing.write_message.Needs as need

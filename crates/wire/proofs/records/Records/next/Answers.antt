@@ -9,7 +9,7 @@ use Rattle.std.specs.declared.result.Result.the-variants.{Ok}
 use Rattle.std.proofs.shelf.Lists.{take-rest, length-drop}
 use Rattle.wire.specs.Format.{message, comment}
 use Rattle.wire.specs.Reading.{content, record-at, record-length, record-kind, record-body}
-use Rattle.wire.proofs.ByteLaws.{number-two-at}
+use Rattle.bytes.proofs.ByteLaws.{number-two-at}
 use Rattle.wire.proofs.RecordLaws.{record-none, record-bad-length, record-message, record-comment, record-bad-kind}
 use Rattle.wire.proofs.records.Records.next.Needs as need
 use Rattle.wire.proofs.records.Records.next.Needs.{After-from-length, After-from-le-bytes-2, at·After-from-le-bytes-2, at·returns-then-length-lt-HEADER, at·returns-in-rest, at·returns, in-1, in-2}

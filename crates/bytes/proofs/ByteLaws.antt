@@ -2,13 +2,15 @@
 use mathlib.Core.Path.{_≡_, refl, sym, ap, subst, _∙_}
 use mathlib.Core.List.{List, [], _∷_}
 use Prim.Native.Nat.{ℕ, zero, suc, _+_, _*_, _/_, _%_, _^_, _≤_, _<_}
-use native.Mathlib.Nat.{div-div-eq-div-mul, pow-suc}
+use native.Mathlib.Nat.{div-div-eq-div-mul, one-le-pow, pow-suc}
 use native.Mathlib.Omega.{arith}
 use lib.ListN.{length, getD, take, drop}
 use Rattle.std.proofs.shelf.Bits.{div-below}
-use Rattle.std.proofs.shelf.Elements.{all-getD, all-take, all-drop}
-use Rattle.std.proofs.shelf.Lists.{getD-drop, length-drop, length-take-le}
-use Rattle.wire.specs.Bytes.{Octets, little, number}
+use mir.Syntax.{w8}
+use mir.Val.{Fits}
+use Rattle.std.proofs.shelf.Elements.{all-getD, all-from-getD, all-take, all-drop}
+use Rattle.std.proofs.shelf.Lists.{getD-drop, length-drop, length-take, length-take-le}
+use Rattle.bytes.specs.Bytes.{Octets, little, number}
 
 number-two : (bs : List ℕ) → 2 ≤ length bs → getD bs 0 0 + getD bs 1 0 * 256 ≡ number (take 2 bs)
 number-two [] h = absurd (omega arith)
@@ -38,6 +40,10 @@ little-number (b ∷ bs) (h, o) =
     let high : (b + 256 * number bs) / 256 ≡ number bs = omega arith in
     (λ i. low i ∷ little (length bs) (high i)) ∙ ap (λ cs. b ∷ cs) (little-number bs o)
 
+-- what a slice of bytes holds
+pub octets : (bs : List ℕ) → ((i : ℕ) → Fits w8 (getD bs i 0)) → Octets bs
+octets bs fits = all-from-getD (λ b. b < 256) bs 0 (λ i _. fits i .fits)
+
 pub octets-take : (k : ℕ) (bs : List ℕ) → Octets bs → Octets (take k bs)
 octets-take = all-take (λ b. b < 256)
 
@@ -48,14 +54,16 @@ octets-drop = all-drop (λ b. b < 256)
 pub little-first : (k : ℕ) (bs : List ℕ) → k ≤ length bs → Octets bs → little k (number (take k bs)) ≡ take k bs
 little-first k bs h o = ap (λ n. little n (number (take k bs))) (sym (length-take-le k bs h)) ∙ little-number (take k bs) (octets-take k bs o)
 
--- k bytes write a number below 256 ^ k
-pub number-below : (bs : List ℕ) → Octets bs → number bs < 256 ^ length bs
-number-below [] o = omega arith
-number-below (b ∷ bs) (h, o) = let more = pow-suc 256 (length bs) in let below = number-below bs o in omega arith
+-- at most k bytes write a number below 256 ^ k
+pub number-below : (k : ℕ) (bs : List ℕ) → length bs ≤ k → Octets bs → number bs < 256 ^ k
+number-below zero [] h o = omega arith
+number-below zero (b ∷ bs) h o = absurd (omega arith)
+number-below (suc k) [] h o = one-le-pow (suc k) 256 (omega arith)
+number-below (suc k) (b ∷ bs) h (low, o) = let more = pow-suc 256 k in let below = number-below k bs (omega arith) o in omega arith
 
--- eight of them
-pub eight-below : (bs : List ℕ) → 8 ≤ length bs → Octets bs → number (take 8 bs) < 2 ^ 64
-eight-below bs h o = subst (λ n. number (take 8 bs) < 256 ^ n) (length-take-le 8 bs h) (number-below (take 8 bs) (octets-take 8 bs o))
+-- the first k of them
+pub first-below : (k : ℕ) (bs : List ℕ) → Octets bs → number (take k bs) < 256 ^ k
+first-below k bs o = number-below k (take k bs) (simp length-take (omega arith)) (octets-take k bs o)
 
 pub octet-at : (bs : List ℕ) (i : ℕ) → i < length bs → Octets bs → getD bs i 0 < 256
 octet-at bs i h o = all-getD (λ b. b < 256) bs i 0 h o
