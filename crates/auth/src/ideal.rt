@@ -9,7 +9,7 @@ use crate::turn_record::TurnRecord;
 
 // A record of what was signed, which all nodes share and believe: what signatures are meant to be.
 // It knows the faulty nodes, since their firms have the keys and may sign anything at any time.
-#[derive(Clone, Copy)]
+#[derive(Drop)]
 pub struct IdealAuthenticator {
     roster: Roster,
     current: TurnRecord,

@@ -7,8 +7,6 @@ mod mac;
 mod roster;
 mod rosters;
 mod signing;
-#[cfg(test)]
-mod tests;
 mod turn_record;
 
 pub use authenticator::Authenticator;

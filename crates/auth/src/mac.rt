@@ -7,18 +7,19 @@ use crate::authenticator::Authenticator;
 use crate::fault::SignFault;
 use crate::roster::MAX_NODES;
 use crate::turn_record::TurnRecord;
+use siphash::Key;
 use siphash::siphash;
 
 // A secret key for each of the nodes 0 to 15, and what they have signed.
 #[derive(Drop)]
 pub struct MacAuthenticator {
-    keys: [[u8; 16]; MAX_NODES],
+    keys: [Key; MAX_NODES],
     current: TurnRecord,
 }
 
 impl MacAuthenticator {
     // Turn 0 is in hand, and nobody has signed.
-    pub fn new(keys: &[[u8; 16]; MAX_NODES]) -> MacAuthenticator
+    pub fn new(keys: &[Key; MAX_NODES]) -> MacAuthenticator
         ensures turn_in_hand { λ r. ⌜ r .current .turn ≡ 0 ⌝ }
         ensures nothing_signed { λ r. ⌜ lists (r .current) ≡ none-signed ⌝ }
         ensures same_keys { λ r. ⌜ r .keys ≡ now (keys .entry) ⌝ }

@@ -33,9 +33,9 @@ round s =
     let t = mixed (p .0 ⋘ 32) (q .1) 21 in
     record { v0 = t .0; v1 = r .1; v2 = r .0 ⋘ 32; v3 = t .1 }
 
-unfoldable pub rounds : ℕ → State → State
+abbrev pub rounds : ℕ → State → State
 rounds zero s = s
-rounds (suc n) s = rounds n (round s)
+rounds (suc n) s = round (rounds n s)
 
 -- the words of "somepseudorandomlygeneratedbytes", each combined with a half of the key
 unfoldable pub initial : List ℕ → State

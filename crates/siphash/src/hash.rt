@@ -2,21 +2,24 @@ ghost use mathlib.Core.Path.{_≡_};
 ghost use Prim.Native.Nat.{_+_, _*_, _%_, _^_, _<_};
 ghost use lib.ListN.{length};
 ghost use Rattle.bytes.specs.Bytes.{number};
-ghost use Rattle.siphash.specs.SipHash.{mixed, round, initial, absorbed, finished, siphash-2-4};
+ghost use Rattle.siphash.specs.SipHash.{mixed, round, rounds, initial, absorbed, finished, siphash-2-4};
 use crate::state::State;
 use bytes::read_u64;
 
-// The tag of a message.
-pub fn siphash(key: &[u8; 16], message: &[u8]) -> u64
+pub type Key = [u8; 16];
+
+// The tag of a message. It is exported too, for programs in other languages.
+#[unsafe(no_mangle)]
+pub extern "C" fn siphash(key: &Key, message: &[u8]) -> u64
     ensures { λ r. ⌜ r ≡ siphash-2-4 (now (key .entry)) (now (message .entry)) ⌝ }
 {
+    let words = message.len() / 8;
+    let last = last_word(&message[8 * words..], message.len());
     let mut state = State::new(key);
-    let mut left = message;
-    while left.len() >= 8 {
-        state = state.absorb(read_u64(left));
-        left = &left[8..];
+    for i in 0..words {
+        state = state.absorb(read_u64(&message[8 * i..8 * i + 8]));
     }
-    state.absorb(last_word(left, message.len())).finish()
+    state.absorb(last).finish()
 }
 
 // The bytes left over, and the lowest byte of the message's length on top.
@@ -38,7 +41,7 @@ fn mix(a: u64, b: u64, by: u32) -> (u64, u64)
 }
 
 impl State {
-    fn new(key: &[u8; 16]) -> State
+    fn new(key: &Key) -> State
         ensures { λ r. ⌜ r ≡ initial (now (key .entry)) ⌝ }
     {
         let k0 = read_u64(&key[0..8]);
@@ -66,13 +69,23 @@ impl State {
         }
     }
 
+    fn rounds(self, count: u8) -> State
+        ensures { λ r. ⌜ r ≡ rounds count self ⌝ }
+    {
+        let mut state = self;
+        for _ in 0..count {
+            state = state.round();
+        }
+        state
+    }
+
     // Takes in one word, by two rounds.
     fn absorb(self, word: u64) -> State
         ensures { λ r. ⌜ r ≡ absorbed self word ⌝ }
     {
         let mut state = self;
         state.v3 ^= word;
-        state = state.round().round();
+        state = state.rounds(2);
         state.v0 ^= word;
         state
     }
@@ -83,7 +96,7 @@ impl State {
     {
         let mut state = self;
         state.v2 ^= 0xff;
-        state = state.round().round().round().round();
+        state = state.rounds(4);
         state.v0 ^ state.v1 ^ state.v2 ^ state.v3
     }
 }

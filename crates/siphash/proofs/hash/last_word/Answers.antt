@@ -1,5 +1,5 @@
+use mathlib.Core.Path.{_≡_, ap, _∙_}
 use Prim.Native.Nat.{_^_, _<_}
-use mathlib.Core.Path.{_≡_, sym, ap, subst, _∙_}
 use native.Mathlib.Omega.{arith}
 use Rattle.std.proofs.shelf.Lists.{take-all}
 use Rattle.bytes.specs.Bytes.{number}
@@ -12,4 +12,4 @@ returns c =
     let left = c .args .left .now in
     let read : c .read-u64 .result ≡ number left = c .read-u64 .ensures ∙ ap number (take-all 8 left (omega arith)) in
     let low : number left < 2 ^ 56 = number-below 7 left (omega arith) (octets left (c .typed .left)) in
-    on-top _ (c .args .size) (omega arith) ∙ omega arith
+    omega (arith, on-top (c .read-u64 .result) (c .args .size) (omega arith))

@@ -1,10 +1,8 @@
 use mathlib.Core.Path.{_≡_}
-use lib.ListN.{length}
+use Prim.Native.Nat.{_*_}
+use lib.ListN.{length, drop}
 use Rattle.siphash.specs.SipHash.{absorbed-all, initial, end-words}
 use Rattle.siphash.proofs.hash.siphash.Given as given
 
-abbrev pub Inv-loop-left : given.InvT-loop-left
-Inv-loop-left l = absorbed-all (l .state) (end-words (length (l .message)) (l .left)) ≡ absorbed-all (initial (l .key)) (end-words (length (l .message)) (l .message))
-
-abbrev pub μ-loop-left : given.MeasureT-loop-left
-μ-loop-left l = length (l .left)
+abbrev pub Inv-loop-i : given.InvT-loop-i
+Inv-loop-i l = absorbed-all (l .state) (end-words (length (l .message)) (drop (8 * l .i) (l .message))) ≡ absorbed-all (initial (l .key)) (end-words (length (l .message)) (l .message))

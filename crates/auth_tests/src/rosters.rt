@@ -1,6 +1,6 @@
-use crate::roster::Roster;
-use crate::roster::RosterFault;
-use crate::roster::RosterFaultDebug;
+use auth::Roster;
+use auth::RosterFault;
+use auth::RosterFaultDebug;
 use std::test::*;
 
 #[test]
