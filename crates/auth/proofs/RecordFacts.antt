@@ -1,21 +1,19 @@
 -- A turn's record, list by list.
 use mathlib.Core.Bool.{Bool, true, false, cond, _&&_}
-use mathlib.Core.List.{List, [], map}
+use mathlib.Core.List.{[], map}
 use mathlib.Core.Logic.{⊎-elim}
 use mathlib.Core.Path.{_≡_, refl, sym, ap, subst, _∙_}
 use Prim.Native.Nat.{ℕ, _≤_, _<_}
 use native.Mathlib.Omega.{arith}
 use lib.ListN.{length, getD, set}
-use Rattle.std.specs.declared.option.Option.{Option}
 use Rattle.std.specs.declared.option.Option.the-variants.{Some, None}
-use Rattle.std.specs.declared.result.Result.the-variants.{Ok, Err}
 use Rattle.std.proofs.shelf.Lists.{getD-map, getD-past, length-map, map-set}
 use Rattle.std.proofs.shelf.Tests.{cases-lt, cond-true, lt-ltb}
 use Rattle.auth.specs.declared.turn_record.SignedValues.{SignedValues}
 use Rattle.auth.specs.declared.turn_record.SignedValues.the-variants.{Nothing, One, Two}
 use Rattle.auth.specs.declared.turn_record.TurnRecord.{TurnRecord}
 use Rattle.auth.specs.Recorded.{values, lists, joined}
-use Rattle.auth.specs.Signing.{signed-by, takes, may-sign, with-value, after-signing, signing}
+use Rattle.auth.specs.Signing.{signed-by, takes, may-sign, with-value, after-signing}
 
 from-none : {X : Type 0} (b : Bool) (x : X) → None ≡ cond b (Some x) None → b ≡ false
 from-none true x e = let z : _≡_ {A = ℕ} 0 1 = cc in absurd (omega arith)

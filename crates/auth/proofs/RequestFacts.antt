@@ -2,17 +2,16 @@
 use mathlib.Core.Bool.{true, false, cond}
 use mathlib.Core.List.{List, [], _∷_, _++_, append-assoc, append-nil}
 use mathlib.Core.Logic.{⊎-elim}
-use mathlib.Core.Path.{_≡_, refl, sym, ap, subst, _∙_}
+use mathlib.Core.Path.{_≡_, sym, ap, subst, _∙_}
 use Prim.Native.Nat.{ℕ, _≤_, _<_}
 use native.Mathlib.Omega.{arith}
-use lib.Dec.{ltb}
 use lib.ListN.{length, take}
 use Rattle.std.proofs.shelf.Lists.{length-append, take-all, take-append-le}
 use Rattle.std.proofs.shelf.Tests.{cases-bool, cases-eq, cases-lt, cond-true, cond-false, eq-eqb, ne-eqb}
 use Rattle.std.proofs.shelf.Ways.{tells}
 use Rattle.auth.specs.Lists.{has}
 use Rattle.auth.specs.SigningLaws.{Request, after-all, asked-of, new-values}
-use Rattle.auth.specs.Signing.{signed-by, takes, may-sign, with-value, after-signing}
+use Rattle.auth.specs.Signing.{signed-by, takes, with-value, after-signing}
 use Rattle.auth.proofs.SigningFacts.{length-after, may-is, other-list, own-list}
 
 -- a list after a request

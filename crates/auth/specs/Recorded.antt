@@ -9,11 +9,13 @@ use Rattle.auth.specs.declared.turn_record.SignedValues.the-variants.{Nothing,
 use Rattle.auth.specs.declared.turn_record.TurnRecord.{TurnRecord}
 use Rattle.auth.specs.Signing.{takes, with-value}
 
+-- what one node has signed, in order
 abbrev pub values : SignedValues → List ℕ
 values Nothing = []
 values (One first) = first ∷ []
 values (Two first second) = first ∷ second ∷ []
 
+-- the lists of all nodes
 abbrev pub lists : TurnRecord → List (List ℕ)
 lists r = map values (r .each)
 

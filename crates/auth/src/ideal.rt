@@ -16,7 +16,7 @@ pub struct IdealAuthenticator {
 }
 
 impl IdealAuthenticator {
-    // Turn 0 is in hand, and nobody has signed.
+    // Turn 0 is in hand, and nobody has signed. Under its rule no signature of an honest node can be forged, whatever is signed.
     pub fn new(roster: &Roster) -> IdealAuthenticator
         ensures turn_in_hand { λ r. ⌜ r .current .turn ≡ 0 ⌝ }
         ensures nothing_signed { λ r. ⌜ lists (r .current) ≡ none-signed ⌝ }

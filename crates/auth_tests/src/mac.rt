@@ -4,7 +4,6 @@ use crate::turns::two_turns;
 use auth::Authenticator;
 use auth::MacAuthenticator;
 use auth::MacIsAuthenticator;
-use auth::SignFault;
 use auth::SignFaultDebug;
 use auth::SignFaultPartialEq;
 use siphash::siphash;

@@ -1,6 +1,6 @@
 -- The words of a message.
 use mathlib.Core.List.{List, [], _∷_, _++_}
-use mathlib.Core.Path.{_≡_, refl, sym, ap, subst, _∙_}
+use mathlib.Core.Path.{_≡_, sym, ap, _∙_}
 use Prim.Native.Nat.{ℕ, zero, suc, _+_, _-_, _*_, _/_, _%_, _^_, _≤_, _<_}
 use native.Mathlib.Nat.{mul-assoc, mul-comm, pow-suc}
 use native.Mathlib.Omega.{arith}
@@ -9,7 +9,7 @@ use lib.ListN.{length, take, drop, replicate}
 use Rattle.std.proofs.shelf.Bits.{or-comm, or-shifted}
 use Rattle.std.proofs.shelf.Lists.{take-append-le, drop-append-le, take-all, length-append, length-drop, length-replicate}
 use Rattle.bytes.specs.Bytes.{number}
-use Rattle.siphash.specs.SipHash.{words, padded, end-words}
+use Rattle.siphash.specs.SipHash.{words, end-words}
 
 -- a byte on top of less than a word
 pub on-top : (low size : ℕ) → low < 2 ^ 56 → bitOr low (size * 2 ^ 56 % 2 ^ 64) ≡ low + size % 256 * 2 ^ 56

@@ -7,10 +7,10 @@ use lib.ListN.{length, take, drop, replicate}
 use Rattle.bytes.specs.Bytes.{number}
 use Rattle.siphash.specs.declared.state.State.{State}
 
+-- the three operations on words: sum, exclusive or, rotation to the left by 1 to 63 bits
 infixl 20 _⊞_
 infixl 20 _⊕_
 infixl 30 _⋘_
--- the three operations on words: sum, exclusive or, rotation to the left by 1 to 63 bits
 abbrev pub _⊞_ : ℕ → ℕ → ℕ
 a ⊞ b = (a + b) % 2 ^ 64
 
@@ -20,11 +20,11 @@ a ⊕ b = bitXor a b
 abbrev pub _⋘_ : ℕ → ℕ → ℕ
 a ⋘ by = bitOr (a * 2 ^ by % 2 ^ 64) (a / 2 ^ (64 - by))
 
--- a half of what a round does to a pair of words
+-- two words mixed: the first becomes their sum, the second is turned and combined with the sum
 abbrev pub mixed : ℕ → ℕ → ℕ → ℕ × ℕ
 mixed a b by = (a ⊞ b, b ⋘ by ⊕ (a ⊞ b))
 
--- one round: both pairs are mixed, then the pairs crosswise, and two words are turned by half
+-- one round: the words are mixed pair by pair, then across the pairs, and two of them are turned by half
 unfoldable pub round : State → State
 round s =
     let p = mixed (s .v0) (s .v1) 13 in
@@ -49,18 +49,18 @@ initial key =
       v3 = k1 ⊕ 0x7465646279746573;
     }
 
--- a word is taken in by two rounds
+-- a word of the message is taken in by two rounds
 unfoldable pub absorbed : State → ℕ → State
 absorbed s word =
     let t = rounds 2 (record { v0 = s .v0; v1 = s .v1; v2 = s .v2; v3 = s .v3 ⊕ word }) in
     record { v0 = t .v0 ⊕ word; v1 = t .v1; v2 = t .v2; v3 = t .v3 }
 
--- and one after the other
+-- the words one after the other
 abbrev pub absorbed-all : State → List ℕ → State
 absorbed-all s [] = s
 absorbed-all s (word ∷ words) = absorbed-all (absorbed s word) words
 
--- the tag, by four rounds more
+-- the tag, after four more rounds
 unfoldable pub finished : State → ℕ
 finished s =
     let t = rounds 4 (record { v0 = s .v0; v1 = s .v1; v2 = s .v2 ⊕ 0xff; v3 = s .v3 }) in

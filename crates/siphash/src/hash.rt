@@ -30,7 +30,7 @@ fn last_word(left: &[u8], size: usize) -> u64
     read_u64(left) | (size as u64) << 56
 }
 
-// Two words, the first with the second added, the second turned and combined with the sum.
+// Two words mixed: their sum, and the second turned and combined with the sum.
 fn mix(a: u64, b: u64, by: u32) -> (u64, u64)
     requires positive { ⌜ 0 < by ⌝ }
     requires below { ⌜ by < 64 ⌝ }

@@ -8,10 +8,10 @@ use lib.ListN.{length, getD, take, drop, replicate}
 use Rattle.std.specs.declared.option.Option.the-variants.{Some, None}
 use Rattle.std.specs.declared.result.Result.the-variants.{Ok}
 use Rattle.std.specs.shelf.Lists.{All, joined}
-use Rattle.std.proofs.shelf.Lists.{length-append, length-take, length-take-le, length-drop, take-at, take-append-drop, drop-drop, nil-from-length}
+use Rattle.std.proofs.shelf.Lists.{length-append, length-take, length-drop, take-at, take-append-drop, drop-drop, nil-from-length}
 use Rattle.std.proofs.shelf.Ways.{tells}
 use Rattle.wire.specs.declared.message.Message.{Message}
-use Rattle.bytes.specs.Bytes.{Octets, little, number}
+use Rattle.bytes.specs.Bytes.{Octets, little}
 use Rattle.wire.specs.Format.{Item, message, comment, chain, signature-bytes, body-bytes, record-bytes, message-bytes, comment-bytes, item-bytes}
 use Rattle.wire.specs.Reading.{record-at, record-length, record-kind, record-body, signatures-from, blank, message-from, well-formed}
 use Rattle.wire.specs.Laws.{Sized, Writable}

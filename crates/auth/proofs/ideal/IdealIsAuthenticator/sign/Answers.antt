@@ -16,8 +16,8 @@ returns c =
     let value = c .args .value in
     let told = c .in-Continue-sign .ensures tt in
     let valid : ideal-rule (before .roster) (after .turn) (lists after) node value 0 ≡ true =
-        subst (λ ls. ideal-rule (before .roster) (after .turn) ls node value 0 ≡ true) (sym (told .value-joins-the-list))
-        (or-right (faulty-node (before .roster) node) _ (signed-now (lists (before .current)) (length-lists (before .current)) node value (told .answer))) in
+    subst (λ ls. ideal-rule (before .roster) (after .turn) ls node value 0 ≡ true) (sym (told .value-joins-the-list))
+    (or-right (faulty-node (before .roster) node) _ (signed-now (lists (before .current)) (length-lists (before .current)) node value (told .answer))) in
     record {
       answer = told .answer;
       tag-is-valid = valid;

@@ -1,4 +1,4 @@
-use mathlib.Core.Path.{_≡_, ap, _∙_}
+use mathlib.Core.Path.{_≡_, _∙_}
 use Rattle.siphash.specs.SipHash.{_⋘_, mixed, round}
 use Rattle.siphash.proofs.state.State.round.Needs as need
 
