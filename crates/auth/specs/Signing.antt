@@ -1,4 +1,4 @@
--- What the nodes have signed in a turn, and what a further signing adds.
+-- Signing: what the nodes have signed in a turn, what a further request adds, which tags are valid, and which of them are forged.
 use mathlib.Core.Bool.{Bool, false, cond, not, _&&_, _||_}
 use mathlib.Core.List.{List, [], _∷_, _++_}
 use mathlib.Core.Path.{_≡_}
