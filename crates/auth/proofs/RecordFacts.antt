@@ -1,5 +1,5 @@
 -- A turn's record, list by list.
-use mathlib.Core.Bool.{Bool, true, false, cond, _&&_}
+use mathlib.Core.Bool.{Bool, true, false, cond}
 use mathlib.Core.List.{[], map}
 use mathlib.Core.Logic.{⊎-elim}
 use mathlib.Core.Path.{_≡_, refl, sym, ap, subst, _∙_}
@@ -8,12 +8,13 @@ use native.Mathlib.Omega.{arith}
 use lib.ListN.{length, getD, set}
 use Rattle.std.specs.declared.option.Option.the-variants.{Some, None}
 use Rattle.std.proofs.shelf.Lists.{getD-map, getD-past, length-map, map-set}
-use Rattle.std.proofs.shelf.Tests.{cases-lt, cond-true, lt-ltb}
+use Rattle.std.proofs.shelf.Tests.{cases-lt, cond-true}
 use Rattle.auth.specs.declared.turn_record.SignedValues.{SignedValues}
 use Rattle.auth.specs.declared.turn_record.SignedValues.the-variants.{Nothing, One, Two}
 use Rattle.auth.specs.declared.turn_record.TurnRecord.{TurnRecord}
 use Rattle.auth.specs.Recorded.{values, lists, joined}
 use Rattle.auth.specs.Signing.{signed-by, takes, may-sign, with-value, after-signing}
+use Rattle.auth.proofs.SigningFacts.{may-is}
 
 from-none : {X : Type 0} (b : Bool) (x : X) → None ≡ cond b (Some x) None → b ≡ false
 from-none true x e = let z : _≡_ {A = ℕ} 0 1 = cc in absurd (omega arith)
@@ -41,7 +42,7 @@ module _ (r : TurnRecord) where
 
   module _ (node value : ℕ) (h : node < 16) where
     may : may-sign (lists r) node value ≡ takes (values (getD (r .each) node Nothing)) value
-    may = ap (λ b. b && takes (signed-by (lists r) node) value) (lt-ltb node 16 h) ∙ ap (λ vs. takes vs value) (list-at node h)
+    may = may-is (lists r) node value h ∙ ap (λ vs. takes vs value) (list-at node h)
 
     pub not-taken : None ≡ joined (values (getD (r .each) node Nothing)) value → may-sign (lists r) node value ≡ false
     not-taken e = may ∙ from-none _ _ e

@@ -18,7 +18,7 @@ use Rattle.auth.proofs.SigningFacts.{length-after, may-is, other-list, own-lis
 abbrev next : List ℕ → ℕ → List ℕ
 next l v = cond (takes l v) (with-value l v) l
 
--- the list that two values at most have come to, and all that comes after
+-- the first two of a list and of the new values after it
 abbrev pub first-two-of : List ℕ → List ℕ → List ℕ
 first-two-of l vs = take 2 (l ++ new-values l vs)
 

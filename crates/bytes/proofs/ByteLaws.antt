@@ -5,9 +5,9 @@ use Prim.Native.Nat.{ℕ, zero, suc, _+_, _*_, _/_, _%_, _^_, _≤_, _<_}
 use native.Mathlib.Nat.{div-div-eq-div-mul, one-le-pow, pow-suc}
 use native.Mathlib.Omega.{arith}
 use lib.ListN.{length, getD, take, drop}
-use Rattle.std.proofs.shelf.Bits.{div-below}
 use mir.Syntax.{w8}
 use mir.Val.{Fits}
+use Rattle.std.proofs.shelf.Bits.{div-below}
 use Rattle.std.proofs.shelf.Elements.{all-getD, all-from-getD, all-take, all-drop}
 use Rattle.std.proofs.shelf.Lists.{getD-drop, length-drop, length-take, length-take-le}
 use Rattle.bytes.specs.Bytes.{Octets, little, number}
