@@ -1,9 +1,12 @@
 ghost use mathlib.Core.Path.{_≡_};
-ghost use Rattle.auth.specs.Ideal.{ideal-rule};
+ghost use Prim.Native.Nat.{ℕ};
+ghost use Rattle.auth.specs.Ideal.{flagged, ideal-rule};
 ghost use Rattle.auth.specs.Recorded.{lists};
+ghost use Rattle.auth.specs.Rosters.{faulty-node};
 ghost use Rattle.auth.specs.Signing.{Unforgeable, none-signed};
 use crate::authenticator::Authenticator;
 use crate::fault::SignFault;
+use crate::roster::MAX_NODES;
 use crate::roster::Roster;
 use crate::turn_record::TurnRecord;
 
@@ -11,7 +14,7 @@ use crate::turn_record::TurnRecord;
 // It knows the faulty nodes, since their firms have the keys and may sign anything at any time.
 #[derive(Drop)]
 pub struct IdealAuthenticator {
-    roster: Roster,
+    faulty: [bool; MAX_NODES],
     current: TurnRecord,
 }
 
@@ -20,13 +23,21 @@ impl IdealAuthenticator {
     pub fn new(roster: &Roster) -> IdealAuthenticator
         ensures turn_in_hand { λ r. ⌜ r .current .turn ≡ 0 ⌝ }
         ensures nothing_signed { λ r. ⌜ lists (r .current) ≡ none-signed ⌝ }
-        ensures same_roster { λ r. ⌜ r .roster ≡ now (roster .entry) ⌝ }
-        ensures unforgeable { λ r. ⌜ Unforgeable (now (roster .entry)) (ideal-rule (r .roster)) ⌝ }
+        ensures same_flags { λ r. ⌜ r .faulty ≡ now (roster .entry) .faulty ⌝ }
+        ensures flags_are_the_faulty_nodes { λ r. ⌜ ((node : ℕ) → flagged (r .faulty) node ≡ faulty-node (now (roster .entry)) node) ⌝ }
+        ensures unforgeable { λ r. ⌜ Unforgeable (now (roster .entry)) (ideal-rule (r .faulty)) ⌝ }
     {
         IdealAuthenticator {
-            roster: *roster,
+            faulty: roster.faulty,
             current: TurnRecord::new(0),
         }
+    }
+
+    fn is_faulty(&self, node: u8) -> bool
+        ensures { λ r. ⌜ r ≡ flagged (now (self .entry) .faulty) node ⌝ }
+    {
+        let place = node as usize;
+        place < MAX_NODES && self.faulty[place]
     }
 }
 
@@ -35,7 +46,7 @@ pub impl Authenticator for IdealAuthenticator as IdealIsAuthenticator {
 
     ghost signed = { λ a. lists (a .current) };
 
-    ghost rule = { λ a. ideal-rule (a .roster) };
+    ghost rule = { λ a. ideal-rule (a .faulty) };
 
     fn begin(&mut self, number: u8) {
         self.current = TurnRecord::new(number);
@@ -47,6 +58,6 @@ pub impl Authenticator for IdealAuthenticator as IdealIsAuthenticator {
     }
 
     fn verify(&self, node: u8, value: u64, tag: u64) -> bool {
-        tag == 0 && (self.roster.is_faulty(node) || self.current.has_signed(node, value))
+        tag == 0 && (self.is_faulty(node) || self.current.has_signed(node, value))
     }
 }
