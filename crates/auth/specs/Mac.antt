@@ -1,6 +1,6 @@
 -- The authenticator with a secret key for each of sixteen nodes.
 use Rattle.std.specs.Prelude.{ℕ, ◌&&◌, List, [], ◌∷◌, ◌==◌, nat_lt, slice_index_or}
-use Rattle.bytes.specs.Bytes.{little}
+use Rattle.little_endian.specs.Bytes.{little}
 use Rattle.siphash.specs.SipHash.{siphash_2_4}
 use Rattle.auth.specs.Signing.{Rule}
 

@@ -1,4 +1,6 @@
-// Who takes part, and who has signed what: rosters and authenticators.
+//! Who takes part, and who has signed what: rosters and authenticators.
+#![tactic(auto)]
+
 mod authenticator;
 mod fault;
 mod ideal;

@@ -1,4 +1,6 @@
-// Tests of rosters and authenticators on examples, and of SipHash on its published tags.
+//! Tests of rosters and authenticators on examples, and of SipHash on its published tags.
+#![tactic(auto)]
+
 #[cfg(test)]
 mod ideal;
 #[cfg(test)]

@@ -1,4 +1,6 @@
-// A leader's proposal, broadcast to the nodes of a roster of which some are faulty.
+//! A leader's proposal, broadcast to the nodes of a roster of which some are faulty.
+#![tactic(auto)]
+
 mod broadcast;
 mod delivery;
 mod direct;

@@ -1,4 +1,6 @@
-// Reads a message file from standard input, runs one turn with it, and prints the outcomes or the file's refusal.
+//! Reads a message file from standard input, runs one turn with it, and prints the outcomes or the file's refusal.
+#![tactic(auto)]
+
 use depot_turn::respond;
 use std::io::Read;
 

@@ -1,4 +1,6 @@
-// What the program `depot` does: one turn from a message file, and what is said of it.
+//! What the program `depot` does: one turn from a message file, and what is said of it.
+#![tactic(auto)]
+
 mod depot;
 mod text;
 mod turn;

@@ -1,4 +1,6 @@
-// The broadcast of Dolev and Strong, over any authenticator.
+//! The broadcast of Dolev and Strong, over any authenticator.
+#![tactic(auto)]
+
 mod judging;
 mod laws;
 mod round;

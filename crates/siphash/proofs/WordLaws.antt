@@ -3,7 +3,7 @@ use Rattle.std.proofs.Common.{◌≡◌, ℕ, zero, suc, ◌+◌, ◌-◌, ◌*�
 use lib.Bits.{bit_or}
 use Rattle.std.proofs.lemmas.Nat.{or_comm, or_shifted}
 use Rattle.std.proofs.lemmas.List.{take-append-le, drop-append-le, take_all, length-append, length-drop, length-replicate}
-use Rattle.bytes.specs.Bytes.{number}
+use Rattle.little_endian.specs.Bytes.{number}
 use Rattle.siphash.specs.SipHash.{words, end_words}
 
 -- a byte on top of less than a word

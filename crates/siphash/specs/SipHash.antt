@@ -1,7 +1,7 @@
 -- SipHash-2-4, as Jean-Philippe Aumasson and Daniel J. Bernstein published it in 2012: a 64-bit tag of a message under a 16-byte key.
 -- A word has 64 bits, and its bytes stand in the message with the lowest first.
 use Rattle.std.specs.Prelude.{ℕ, zero, suc, ◌+◌, ◌-◌, ◌*◌, ◌/◌, ◌%◌, ◌^◌, List, [], ◌∷◌, ◌++◌, length, take, drop, replicate, bit_or, bit_xor}
-use Rattle.bytes.specs.Bytes.{number}
+use Rattle.little_endian.specs.Bytes.{number}
 use Rattle.siphash.specs.declared.state.State.{State}
 
 -- the three operations on words: sum, exclusive or, rotation to the left by 1 to 63 bits

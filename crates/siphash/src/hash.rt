@@ -1,9 +1,9 @@
 ghost use Rattle.std.specs.Prelude.{◌≡◌, ◌+◌, ◌*◌, ◌%◌, ◌^◌, ◌<◌, length};
-ghost use Rattle.bytes.specs.Bytes.{number};
+ghost use Rattle.little_endian.specs.Bytes.{number};
 ghost use Rattle.siphash.specs.SipHash.{mixed, round, rounds, initial, absorbed, finished, siphash_2_4};
 
 use crate::state::State;
-use bytes::read_u64;
+use little_endian::read_u64;
 
 pub type Key = [u8; 16];
 

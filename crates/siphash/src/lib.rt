@@ -1,4 +1,6 @@
-// SipHash-2-4: a 64-bit tag of a message under a 16-byte key.
+//! SipHash-2-4: a 64-bit tag of a message under a 16-byte key.
+#![tactic(auto)]
+
 mod example;
 mod hash;
 mod state;

@@ -4,11 +4,11 @@ use Rattle.std.specs.List.{flat_map, AllByRecursion as All}
 use Rattle.std.proofs.lemmas.List.{length-append, length-take, length-drop, take_at, take-append-drop, drop-drop, nil_from_length}
 use Rattle.std.proofs.lemmas.Bool.Decides.{nat_tests}
 use Rattle.wire.specs.declared.message.Message.{Message}
-use Rattle.bytes.specs.Bytes.{Octets, little}
+use Rattle.little_endian.specs.Bytes.{Octets, little}
 use Rattle.wire.specs.Format.{Item, message, comment, chain, signature_bytes, body_bytes, record_bytes, message_bytes, comment_bytes, item_bytes}
 use Rattle.wire.specs.Reading.{record_at, record_length, record_kind, record_body, signatures_from, blank, message_from, well_formed}
 use Rattle.wire.specs.Laws.{Sized, Writable}
-use Rattle.bytes.proofs.ByteLaws.{little_first, first_below, octet_at, Octets-take, Octets-drop}
+use Rattle.little_endian.proofs.ByteLaws.{little_first, first_below, octet_at, Octets-take, Octets-drop}
 use Rattle.wire.proofs.FileLaws.{Lies}
 use Rattle.wire.proofs.SignatureLaws.{length-signatures}
 

@@ -5,11 +5,11 @@ use Rattle.std.proofs.lemmas.List.{length-append, length-take, take_at, drop_at}
 use Rattle.std.proofs.lemmas.Bool.{and_from, le-leb, eq-eqb, cond-true}
 use Rattle.wire.specs.declared.message.Signature.{Signature}
 use Rattle.wire.specs.declared.message.Message.{Message}
-use Rattle.bytes.specs.Bytes.{little, number}
+use Rattle.little_endian.specs.Bytes.{little, number}
 use Rattle.wire.specs.Format.{message, comment, meaning, chain, signature_bytes, body_bytes, record_bytes, message_bytes, comment_bytes}
 use Rattle.wire.specs.Reading.{record_length, record_kind, record_body, parsed, entry_at, signatures_from, blank, message_from, well_formed}
 use Rattle.wire.specs.Laws.{Sized}
-use Rattle.bytes.proofs.ByteLaws.{number-little}
+use Rattle.little_endian.proofs.ByteLaws.{number-little}
 use Rattle.wire.proofs.RecordLaws.{record_message, record_comment}
 use Rattle.wire.proofs.SignatureLaws.{length-signatures}
 use Rattle.wire.proofs.WritingLaws.{length-signature_bytes}

@@ -1,7 +1,7 @@
 -- The signatures of a body, one by one.
 use Rattle.std.proofs.Common.{◌≡◌, ℕ, zero, suc, ◌+◌, ◌-◌, ◌*◌, ◌<◌, List, [], ◌∷◌, ◌++◌, length, get_or, take, drop, set, replicate, sym, refl, ap, ◌∙◌, append_assoc, add-zero, add-one, arith}
 use Rattle.std.proofs.lemmas.List.{drop-drop, get_or-drop, set_at}
-use Rattle.bytes.specs.Bytes.{number}
+use Rattle.little_endian.specs.Bytes.{number}
 use Rattle.wire.specs.Reading.{signature_from, signatures_from, blank}
 
 pub length-signatures : (k : ℕ) (bytes : List ℕ) → length (signatures_from k bytes) ≡ k

@@ -8,13 +8,13 @@ use Rattle.wire.specs.declared.fault.Layer.TheVariants as ALayer
 use Rattle.wire.specs.declared.fault.Refusal.{Refusal}
 use Rattle.wire.specs.declared.fault.ShortBuffer.{ShortBuffer}
 use Rattle.wire.specs.declared.message.Message.{Message}
-use Rattle.bytes.specs.Bytes.{Octets, number}
+use Rattle.little_endian.specs.Bytes.{Octets, number}
 use Rattle.wire.specs.Faults.{refused}
 use Rattle.wire.specs.Format.{Item, message, comment, meaning, chain, body_bytes, message_bytes, comment_bytes, item_bytes, file_bytes}
 use Rattle.wire.specs.Reading.{bad_length, record_at, record_length, record_kind, parsed, entry_at, message_from, well_formed, with_first, onward, messages_within, messages_at, room, reading, file_answer, counted, filled}
 use Rattle.wire.specs.Laws.{Writable, messages_of, WrittenIsRead, ReadIsWritten, Unreadable, Overfull, FirstFault, ReadBack}
 use Rattle.wire.specs.Writing.{Shortage, writing, written, write_answer}
-use Rattle.bytes.proofs.ByteLaws.{Octets-drop}
+use Rattle.little_endian.proofs.ByteLaws.{Octets-drop}
 use Rattle.wire.proofs.FileLaws.{Lies, at_end, at_comment, at_message, reading_large, reading_small}
 use Rattle.wire.proofs.FormatLaws.{read_rest, read_comment, read_message, read_back, read_back_means, chain_short}
 use Rattle.wire.proofs.RecordLaws.{record_none}

@@ -6,7 +6,7 @@ use Rattle.std.proofs.lemmas.List.Edits.{paste-paste, paste_all}
 use Rattle.std.proofs.lemmas.List.{length-append, flat_map_more, take_more, length-take-le}
 use Rattle.wire.specs.declared.message.Signature.{Signature}
 use Rattle.wire.specs.declared.message.Message.{Message}
-use Rattle.bytes.specs.Bytes.{little}
+use Rattle.little_endian.specs.Bytes.{little}
 use Rattle.wire.specs.Format.{chain, signature_bytes, body_bytes, message_bytes}
 
 pub wrote_more : (d d₁ d₂ : List ℕ) (at n place m : ℕ) (s t : List ℕ) → d₁ ≡ paste d at s n → d₂ ≡ paste d₁ place t m → place ≡ at + n → n ≡ length s → m ≡ length t → at ≤ length d → d₂ ≡ paste d at (s ++ t) (n + m)

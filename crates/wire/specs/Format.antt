@@ -3,7 +3,7 @@ use Rattle.std.specs.Prelude.{ℕ, ◌+◌, min, List, ◌∷◌, ◌++◌, leng
 use Rattle.std.specs.List.{flat_map}
 use Rattle.wire.specs.declared.message.Signature.{Signature}
 use Rattle.wire.specs.declared.message.Message.{Message}
-use Rattle.bytes.specs.Bytes.{little}
+use Rattle.little_endian.specs.Bytes.{little}
 
 -- the signatures of a message that mean something: the first `count`, and 16 at the most
 abbrev pub chain : Message → List Signature

@@ -12,7 +12,7 @@ use Rattle.wire.specs.declared.record.Record.TheVariants as ARecord
 use Rattle.wire.specs.declared.entry.Entry.{Entry}
 use Rattle.wire.specs.declared.entry.Entry.TheVariants as AnEntry
 use Rattle.wire.specs.declared.records.Records.{Records}
-use Rattle.bytes.specs.Bytes.{number}
+use Rattle.little_endian.specs.Bytes.{number}
 use Rattle.wire.specs.Faults.{refused, record_refusal, message_refusal, file_refusal}
 use Rattle.wire.specs.Format.{Item, message, comment}
 

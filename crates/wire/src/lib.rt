@@ -1,4 +1,6 @@
-// Messages between nodes, and the message file: a row of records, read in three layers and written one by one.
+//! Messages between nodes, and the message file: a row of records, read in three layers and written one by one.
+#![tactic(auto)]
+
 mod chain;
 mod entries;
 mod entry;

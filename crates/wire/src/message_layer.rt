@@ -8,7 +8,7 @@ use crate::layout::{BODY, SIGNATURE};
 use crate::message::{MAX_SIGNATURES, Message, Signature};
 use crate::record::Record;
 use crate::records::Records;
-use bytes::read_u64;
+use little_endian::read_u64;
 
 const BLANK: Signature = Signature { signer: 0, tag: 0 };
 

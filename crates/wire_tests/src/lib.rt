@@ -1,4 +1,6 @@
-// Tests of the message file on examples: what is written, what is read, and what is refused where.
+//! Tests of the message file on examples: what is written, what is read, and what is refused where.
+#![tactic(auto)]
+
 #[cfg(test)]
 mod capacity;
 #[cfg(test)]

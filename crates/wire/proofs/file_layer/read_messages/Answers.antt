@@ -1,41 +1,41 @@
 use Rattle.std.proofs.Common.{◌≡◌, length, sym, ap, ◌∙◌, arith}
 use Rattle.std.proofs.lemmas.Result.{err_from_is_err_and}
-use Rattle.bytes.proofs.ByteLaws.{octets}
+use Rattle.little_endian.proofs.ByteLaws.{octets}
 use Rattle.wire.specs.Reading.{reading, messages_at, room, counted, filled, file_answer}
 use Rattle.wire.proofs.FileLaws.{reading_large, reading_small, filled_refused}
 use Rattle.wire.proofs.WholeFileLaws.{lawful}
 use Rattle.wire.proofs.file_layer.read_messages.Goals as goal
 
-pub returns-then-file-gt-MAX-FILE : goal.returns-then-file-gt-MAX-FILE
-returns-then-file-gt-MAX-FILE c =
+pub returns-then-file-gt-MAX_FILE : goal.returns-then-file-gt-MAX_FILE
+returns-then-file-gt-MAX_FILE c =
     let file = c.args.file.now in
     let table = c.args.table.now in
-    let large = reading_large file (length table) c.if-file-gt-MAX-FILE.true in
+    let large = reading_large file (length table) c.if-file-gt-MAX_FILE.true in
     let told = sym (ap (counted 0) large) in
     let left = sym (ap (filled table) large) in
-    let l = lawful file table _ _ told left (octets file c.type-inv.file) in
-    record { answer = told; table = left; written_is_read = l.written; read-is-written = l.read; first-fault = l.first }
+    let l = lawful file table _ _ told left (octets file c.type_inv.file) in
+    record { answer = told; table = left; written_is_read = l.written; read_is_written = l.read; first_fault = l.first }
 
-pub returns-in-err-count : goal.returns-in-err-count
-returns-in-err-count c =
-    let p = err_from_is_err_and c.from-residual.result c.from-residual.ensures.1 in
+pub returns-in_err-count : goal.returns-in_err-count
+returns-in_err-count c =
+    let p = err_from_is_err_and c.from_residual.result c.from_residual.ensures.1 in
     let file = c.args.file.now in
     let table = c.args.table.now in
     let most : c.min.result ≡ room (length table) = omega (arith, c.min.ensures) in
-    let small = reading_small file (length table) c.if-file-gt-MAX-FILE.false in
-    let same = c.in-err-count.ensures ∙ ap (λ n. counted 0 (messages_at n 0 file)) most ∙ sym (ap (counted 0) small) in
-    let told : file_answer c.from-residual.result ≡ counted 0 (reading file (length table)) = rw (p.1, p.2) same in
+    let small = reading_small file (length table) c.if-file-gt-MAX_FILE.false in
+    let same = c.in_err-count.ensures ∙ ap (λ n. counted 0 (messages_at n 0 file)) most ∙ sym (ap (counted 0) small) in
+    let told : file_answer c.from_residual.result ≡ counted 0 (reading file (length table)) = rw (p.1, p.2) same in
     let left = sym (filled_refused table (reading file (length table)) _ same) in
-    let l = lawful file table _ _ told left (octets file c.type-inv.file) in
-    record { answer = told; table = left; written_is_read = l.written; read-is-written = l.read; first-fault = l.first }
+    let l = lawful file table _ _ told left (octets file c.type_inv.file) in
+    record { answer = told; table = left; written_is_read = l.written; read_is_written = l.read; first_fault = l.first }
 
 pub returns : goal.returns
 returns c =
     let file = c.args.file.now in
     let table = c.args.table.now in
     let most : c.min.result ≡ room (length table) = omega (arith, c.min.ensures) in
-    let small = reading_small file (length table) c.if-file-gt-MAX-FILE.false in
-    let told = c.in-ok-count.ensures ∙ ap (λ n. counted 0 (messages_at n 0 file)) most ∙ sym (ap (counted 0) small) in
+    let small = reading_small file (length table) c.if-file-gt-MAX_FILE.false in
+    let told = c.in_ok-count.ensures ∙ ap (λ n. counted 0 (messages_at n 0 file)) most ∙ sym (ap (counted 0) small) in
     let left = c.fill.ensures.table ∙ sym (ap (filled table) small) in
-    let l = lawful file table _ _ told left (octets file c.type-inv.file) in
-    record { answer = told; table = left; written_is_read = l.written; read-is-written = l.read; first-fault = l.first }
+    let l = lawful file table _ _ told left (octets file c.type_inv.file) in
+    record { answer = told; table = left; written_is_read = l.written; read_is_written = l.read; first_fault = l.first }

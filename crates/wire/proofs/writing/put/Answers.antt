@@ -6,4 +6,4 @@ pub returns : goal.returns
 returns c =
     let bytes = c.args.bytes.now in
     let size : length bytes ≡ c.args.at + length bytes - c.args.at = omega arith in
-    put_mid-paste c.args.at _ c.args.buffer.now _ bytes (length bytes) c.copy-from-slice.ensures.after size refl
+    put_mid-paste c.args.at _ c.args.buffer.now _ bytes (length bytes) c.copy_from_slice.ensures.after size refl

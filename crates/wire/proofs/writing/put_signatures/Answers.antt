@@ -7,7 +7,7 @@ use Rattle.wire.proofs.WritingLaws.{signatures_written}
 use Rattle.wire.proofs.writing.put_signatures.Goals as goal
 
 pub loop-i-preserved : goal.loop-i-preserved
-loop-i-preserved c = signatures_written c.args.buffer.now c.loop-i.buffer _ c.args.chain.now c.loop-i.i _ c.loop-i-test.true (omega arith) c.loop-i.invariant c.put-signature.ensures
+loop-i-preserved c = signatures_written c.args.buffer.now c.loop-i.buffer _ c.args.chain.now c.loop-i.i _ c.loop-i-test.true (omega arith) c.loop-i.invariant c.put_signature.ensures
 
 pub returns : goal.returns
 returns c =

@@ -16,14 +16,14 @@ pub returns : goal.returns
 returns c =
     let before = c.args.self.now in
     let after = c.sign.new.self in
-    let told = c.in-ok-sign.ensures in
+    let told = c.in_ok-sign.ensures in
     let valid : ideal_rule before.faulty after.turn (lists after) c.args.node c.args.value 0 ≡ true =
-    signed_valid before.faulty after.turn (lists before.current) (lists after) c.args.node c.args.value (length-lists before.current) told.answer told.value-joins-the-list in
+    signed_valid before.faulty after.turn (lists before.current) (lists after) c.args.node c.args.value (length-lists before.current) told.answer told.value_joins_the_list in
     record {
       answer = told.answer;
-      tag-is-valid = valid;
-      value-joins-the-list = told.value-joins-the-list;
+      tag_is_valid = valid;
+      value_joins_the_list = told.value_joins_the_list;
       same_turn = told.same_turn;
-      same-rule = refl;
-      refused-unchanged = tt;
+      same_rule = refl;
+      refused_unchanged = tt;
     }

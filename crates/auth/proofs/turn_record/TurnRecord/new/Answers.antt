@@ -4,4 +4,4 @@ use Rattle.auth.proofs.turn_record.TurnRecord.new.Goals as goal
 
 pub returns : goal.returns
 unfolding table
-returns c = record { turn-in-hand = refl; nothing-signed = refl }
+returns c = record { turn_in_hand = refl; nothing_signed = refl }

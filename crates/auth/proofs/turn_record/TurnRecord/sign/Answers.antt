@@ -3,14 +3,14 @@ use Rattle.std.proofs.lemmas.Bool.{cond-true, cond-false}
 use Rattle.auth.specs.RecordFacts.{not_taken, taken, value_joins}
 use Rattle.auth.proofs.turn_record.TurnRecord.sign.Goals as goal
 
-pub returns-in-default : goal.returns-in-default
-returns-in-default c =
-    let none = not_taken c.args.self.now c.args.node c.args.value (omega arith) c.in-default.ensures in
+pub returns-in_default : goal.returns-in_default
+returns-in_default c =
+    let none = not_taken c.args.self.now c.args.node c.args.value (omega arith) c.in_default.ensures in
     record {
       answer = sym (cond-false _ _ _ none);
-      value-joins-the-list = sym (cond-false _ _ _ none);
+      value_joins_the_list = sym (cond-false _ _ _ none);
       same_turn = refl;
-      refused-unchanged = refl;
+      refused_unchanged = refl;
     }
 
 pub returns : goal.returns
@@ -19,7 +19,7 @@ returns c =
     let e = c.in-Some.ensures in
     record {
       answer = sym (cond-true _ _ _ (taken r c.args.node c.args.value (omega arith) c.in-Some.values e));
-      value-joins-the-list = value_joins r c.args.node c.args.value (omega arith) c.in-Some.values e;
+      value_joins_the_list = value_joins r c.args.node c.args.value (omega arith) c.in-Some.values e;
       same_turn = refl;
-      refused-unchanged = tt;
+      refused_unchanged = tt;
     }

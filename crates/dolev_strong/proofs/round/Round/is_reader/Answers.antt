@@ -2,10 +2,10 @@ use Rattle.std.proofs.Common.{rules}
 use Rattle.dolev_strong.specs.Rounds.{reader}
 use Rattle.dolev_strong.proofs.round.Round.is_reader.Goals as goal
 
-pub returns-then-is-honest : goal.returns-then-is-honest
+pub returns-then-is_honest : goal.returns-then-is_honest
 unfolding reader
-returns-then-is-honest c = search rules
+returns-then-is_honest c = search rules
 
-pub returns-else-is-honest : goal.returns-else-is-honest
+pub returns-else-is_honest : goal.returns-else-is_honest
 unfolding reader
-returns-else-is-honest c = search rules
+returns-else-is_honest c = search rules

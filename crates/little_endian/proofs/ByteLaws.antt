@@ -4,7 +4,7 @@ use native.Mathlib.Nat.{div-div-eq-div-mul, one-le-pow}
 use Rattle.std.proofs.lemmas.Nat.{div_below}
 use Rattle.std.proofs.ByRecursion.{All-get_or, All-from_get_or, All-take, All-drop}
 use Rattle.std.proofs.lemmas.List.{get_or-drop, length-drop, length-take, length-take-le}
-use Rattle.bytes.specs.Bytes.{Octets, little, number}
+use Rattle.little_endian.specs.Bytes.{Octets, little, number}
 
 number_two : (bs : List ℕ) → 2 ≤ length bs → get_or bs 0 0 + get_or bs 1 0 * 256 ≡ number (take 2 bs)
 number_two [] h = absurd (omega arith)

@@ -1,6 +1,8 @@
-// Numbers as bytes, the lowest byte first.
+//! Numbers as bytes, the lowest byte first.
+#![tactic(auto)]
+
 ghost use Rattle.std.specs.Prelude.{◌≡◌, ◌<◌, length, take};
-ghost use Rattle.bytes.specs.Bytes.{number};
+ghost use Rattle.little_endian.specs.Bytes.{number};
 
 // The number that the first eight bytes write. Of fewer bytes, the number that they write.
 pub fn read_u64(bytes: &[u8]) -> u64

@@ -1,6 +1,6 @@
 use Rattle.std.proofs.Common.{◌≡◌, drop}
-use Rattle.bytes.specs.Bytes.{number}
-use Rattle.bytes.proofs.read_few.Given as goal
+use Rattle.little_endian.specs.Bytes.{number}
+use Rattle.little_endian.proofs.read_few.Given as goal
 
 abbrev pub invariant-loop-i : goal.invariant-loop-i
 invariant-loop-i l = l.number ≡ number (drop l.i l.bytes)
