@@ -33,11 +33,11 @@ went c =
     went_by _ _ _ _ _ c.loop-entry.invariant.0 (c.in_ok-entry.was ∙ ap Ok c.in-Some.is) told.answer told.moves_on told.same_file
 
 pub loop-entry-smaller : goal.loop-entry-smaller
-loop-entry-smaller c = falls (went (goal.at.loop-entry-less c).In-Some) c.loop-entry.invariant.2
+loop-entry-smaller c = falls (went (goal.at.loop-entry-smaller c).In-Some) c.loop-entry.invariant.2
 
 pub loop-entry-preserved : goal.loop-entry-preserved
 loop-entry-preserved c =
-    let w = went (goal.at.loop-entry-again c).In-Some in
+    let w = went (goal.at.loop-entry-preserved c).In-Some in
     (still_of w, c.loop-entry.invariant.1, within w c.loop-entry.invariant.2, c.loop-entry.invariant.3 ∙ ap (counted c.loop-entry.count) (past_comment w _ _ (ap entry_content c.in_default-entry.is)))
 
 pub returns-then-count-most : goal.returns-then-count-most
@@ -48,11 +48,11 @@ returns-then-count-most c =
     told
 
 pub loop-entry-smaller-in-Message : goal.loop-entry-smaller-in-Message
-loop-entry-smaller-in-Message c = falls (went (goal.at.loop-entry-less-in-Message c).In-Some) c.loop-entry.invariant.2
+loop-entry-smaller-in-Message c = falls (went (goal.at.loop-entry-smaller-in-Message c).In-Some) c.loop-entry.invariant.2
 
 pub loop-entry-preserved-in-Message : goal.loop-entry-preserved-in-Message
 loop-entry-preserved-in-Message c =
-    let w = went (goal.at.loop-entry-again-in-Message c).In-Some in
+    let w = went (goal.at.loop-entry-preserved-in-Message c).In-Some in
     let count = c.loop-entry.count in
     let most = c.args.most in
     let some : most - count ≡ most - (count + 1) + 1 = omega arith in

@@ -26,10 +26,10 @@ went c =
     went_by _ _ _ _ _ c.loop-entry.invariant.0 (c.in_ok-entry.was ∙ ap Ok c.in-Some.is) told.answer told.moves_on told.same_file
 
 pub loop-entry-smaller : goal.loop-entry-smaller
-loop-entry-smaller c = falls (went (goal.at.loop-entry-less c).In-Some) c.loop-entry.invariant.2
+loop-entry-smaller c = falls (went (goal.at.loop-entry-smaller c).In-Some) c.loop-entry.invariant.2
 
 pub loop-entry-smaller-in-Message : goal.loop-entry-smaller-in-Message
-loop-entry-smaller-in-Message c = falls (went (goal.at.loop-entry-less-in-Message c).In-Some) c.loop-entry.invariant.2
+loop-entry-smaller-in-Message c = falls (went (goal.at.loop-entry-smaller-in-Message c).In-Some) c.loop-entry.invariant.2
 
 -- the message has a place in the table
 roomy : (c : In-Message) → 0 < room (length c.args.table.now) - c.loop-entry.filled
@@ -46,13 +46,13 @@ overflow_add-filled c = record { fits = omega (arith, roomy c) }
 
 pub loop-entry-preserved : goal.loop-entry-preserved
 loop-entry-preserved c =
-    let w = went (goal.at.loop-entry-again c).In-Some in
+    let w = went (goal.at.loop-entry-preserved c).In-Some in
     let past = past_comment w (room (length c.args.table.now) - c.loop-entry.filled) _ (ap entry_content c.in_default-entry.is) in
     (still_of w, c.loop-entry.invariant.1, within w c.loop-entry.invariant.2, subst Reads past c.loop-entry.invariant.3, c.loop-entry.invariant.4 ∙ ap (laid c.loop-entry.table c.loop-entry.filled) past)
 
 pub loop-entry-preserved-in-Message : goal.loop-entry-preserved-in-Message
 loop-entry-preserved-in-Message c =
-    let w = went (goal.at.loop-entry-again-in-Message c).In-Some in
+    let w = went (goal.at.loop-entry-preserved-in-Message c).In-Some in
     let most = room (length c.args.table.now) in
     let n = c.loop-entry.filled in
     let some : most - n ≡ most - (n + 1) + 1 = omega (arith, roomy c) in
