@@ -37,14 +37,24 @@ fn a_message_reaches_its_receiver(rt: HostRuntime) -> Result<(), Fail> {
     )
 }
 
+fn is_silent(
+    rt: &(impl Abort + AllocGlobal),
+    file: &[u8],
+    which: &'static str,
+) -> Result<(), Fail> {
+    let text = respond(rt.alloc(), file)?;
+    assert!(rt; text.as_str() == SILENCE, "{}", which);
+    Ok(())
+}
+
 #[test]
 fn other_messages_do_nothing(rt: HostRuntime) -> Result<(), Fail> {
-    prints(&rt, &[], SILENCE)?;
-    prints(&rt, &[4, 0, 2, 0], SILENCE).note("a comment")?;
-    prints(&rt, &message(1, 0, 1, 5), SILENCE).note("of round 1")?;
-    prints(&rt, &message(0, 2, 1, 5), SILENCE).note("from an honest node")?;
-    prints(&rt, &message(0, 0, 0, 5), SILENCE).note("to the faulty node")?;
-    prints(&rt, &message(0, 0, 4, 5), SILENCE).note("to no node")
+    is_silent(&rt, &[], "an empty file")?;
+    is_silent(&rt, &[4, 0, 2, 0], "a comment")?;
+    is_silent(&rt, &message(1, 0, 1, 5), "of round 1")?;
+    is_silent(&rt, &message(0, 2, 1, 5), "from an honest node")?;
+    is_silent(&rt, &message(0, 0, 0, 5), "to the faulty node")?;
+    is_silent(&rt, &message(0, 0, 4, 5), "to no node")
 }
 
 #[test]

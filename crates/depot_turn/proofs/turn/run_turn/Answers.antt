@@ -13,7 +13,7 @@ read g c =
     read_first _ _ _ _ (sym (ap file_answer c.in_ok-count.was) ∙ told) c.read_messages.ensures.table
 
 pub slice_bounds-broadcast-end : goal.slice_bounds-broadcast-end
-slice_bounds-broadcast-end g c = (read g (goal.at.part-broadcast-end g c).In_ok-count).within
+slice_bounds-broadcast-end g c = (read g (goal.at.slice_bounds-broadcast-end g c).In_ok-count).within
 
 pub returns : goal.returns
 returns g c =
