@@ -1,11 +1,12 @@
 pub mod Ideal
+pub mod IdealFacts
 pub mod Lists
 pub mod Mac
 pub mod Made
+pub mod RecordFacts
 pub mod Recorded
 pub mod Rosters
 pub mod Signing
+pub mod SigningFacts
 pub mod SigningLaws
 pub mod Tables
-pub mod RecordFacts
-pub mod SigningFacts

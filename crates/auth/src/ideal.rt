@@ -1,14 +1,10 @@
-ghost use Rattle.std.specs.Prelude.{◌≡◌, ℕ, true};
+ghost use Rattle.std.specs.Prelude.{◌≡◌, ℕ};
 ghost use Rattle.auth.specs.Ideal.{flagged, ideal_rule};
+ghost use Rattle.auth.specs.IdealFacts.{ideal_lasts};
+ghost use Rattle.auth.specs.RecordFacts.{length-lists, few_are_signed};
 ghost use Rattle.auth.specs.Recorded.{lists};
 ghost use Rattle.auth.specs.Rosters.{faulty_node};
-ghost use Rattle.auth.specs.Signing.{Unforgeable, none_signed, signed_by, after_signing};
-ghost use Rattle.auth.specs.RecordFacts.{length-lists, few_are_signed};
-ghost use Rattle.std.proofs.Common.{arith, rules};
-ghost use Rattle.std.proofs.lemmas.Bool.{cases_Bool};
-ghost use Rattle.std.proofs.lemmas.Bool.Decides.{nat_tests};
-ghost use Rattle.auth.specs.Lists.{has};
-ghost use Rattle.auth.specs.SigningFacts.{signed_lasts};
+ghost use Rattle.auth.specs.Signing.{Unforgeable, none_signed};
 
 use crate::authenticator::Authenticator;
 use crate::fault::SignFault;
@@ -53,15 +49,13 @@ impl Authenticator for IdealAuthenticator {
 
     ghost rule = { λ a. ideal_rule a.faulty };
 
-    ghost eight_bits = { Prim.search rules };
+    ghost eight_bits = { λ a. a.current.eight_bits };
 
     ghost places = { λ a. length-lists a.current };
 
     ghost at_most_two = { λ a. few_are_signed a.current };
 
-    ghost lasting = { λ a turn lists node value tag h signer other.
-        let still : has (signed_by lists node) value ≡ true → has (signed_by (after_signing lists signer other) node) value ≡ true = λ s. signed_lasts lists node value s signer other in
-        Prim.grind (arith, nat_tests, cases_Bool (has (signed_by lists node) value)) };
+    ghost lasting = { λ a. ideal_lasts a.faulty };
 
     fn begin(&mut self, number: u8) {
         self.current = TurnRecord::new(number);

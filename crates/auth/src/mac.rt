@@ -3,7 +3,6 @@ ghost use Rattle.auth.specs.Mac.{mac, mac_rule};
 ghost use Rattle.auth.specs.Recorded.{lists};
 ghost use Rattle.auth.specs.Signing.{none_signed};
 ghost use Rattle.auth.specs.RecordFacts.{length-lists, few_are_signed};
-ghost use Rattle.std.proofs.Common.{rules};
 
 use crate::authenticator::Authenticator;
 use crate::fault::SignFault;
@@ -49,13 +48,13 @@ impl Authenticator for MacAuthenticator {
 
     ghost rule = { λ a. mac_rule a.keys };
 
-    ghost eight_bits = { Prim.search rules };
+    ghost eight_bits = { λ a. a.current.eight_bits };
 
     ghost places = { λ a. length-lists a.current };
 
     ghost at_most_two = { λ a. few_are_signed a.current };
 
-    ghost lasting = { Prim.search rules };
+    ghost lasting = { λ a turn lists node value tag valid signer other. valid };
 
     fn begin(&mut self, number: u8) {
         self.current = TurnRecord::new(number);

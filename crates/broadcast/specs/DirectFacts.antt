@@ -40,3 +40,6 @@ module _ (i : Instance) where
   pub valid : honest i.roster i.leader ≡ true → (node : ℕ) → honest i.roster node ≡ true → slice_index (direct_outcomes i) node ≡ i.proposal
   unfolding direct_outcomes
   valid led node h = at_table _ node 0 (grind (arith, nat_tests)) ∙ grind (arith, nat_tests)
+
+  pub agreed : honest i.roster i.leader ≡ true → (first second : ℕ) → honest i.roster first ≡ true → honest i.roster second ≡ true → slice_index (direct_outcomes i) first ≡ slice_index (direct_outcomes i) second
+  agreed led first second h k = valid led first h ∙ sym (valid led second k)

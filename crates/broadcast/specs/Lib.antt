@@ -1,4 +1,4 @@
 pub mod Direct
+pub mod DirectFacts
 pub mod Instances
 pub mod Trials
-pub mod DirectFacts

@@ -1,9 +1,7 @@
 ghost use Rattle.std.specs.Prelude.{◌≡◌};
-ghost use Rattle.std.proofs.Common.{sym, ◌∙◌};
 ghost use Rattle.auth.specs.Rosters.{honest};
 ghost use Rattle.broadcast.specs.Direct.{from_leader, first_value, direct_outcome, direct_outcomes};
 ghost use Rattle.broadcast.specs.DirectFacts;
-ghost use Rattle.broadcast.specs.DirectFacts.{valid};
 
 use crate::broadcast::Broadcast;
 use crate::delivery::is_delivered;
@@ -22,15 +20,15 @@ impl Broadcast for DirectBroadcast {
 
     ghost leaves = { λ b _ after. after ≡ b };
 
-    ghost places = { λ b i. DirectFacts.places i };
+    ghost places = { λ _ i. DirectFacts.places i };
 
-    ghost blank = { λ b i. DirectFacts.blank i };
+    ghost blank = { λ _ i. DirectFacts.blank i };
 
-    ghost leaderless = { λ b i. DirectFacts.leaderless i };
+    ghost leaderless = { λ _ i. DirectFacts.leaderless i };
 
-    ghost agreement = { λ b i led first second h k. valid i led first h ∙ sym (valid i led second k) };
+    ghost agreement = { λ _ i. DirectFacts.agreed i };
 
-    ghost validity = { λ b i led _. valid i led };
+    ghost validity = { λ _ i led _. DirectFacts.valid i led };
 
     fn broadcast(
         &mut self,

@@ -13,7 +13,7 @@ pub fn depot_roster() -> Roster
 {
     match Roster::new(4, 1, &[0]) {
         Ok(roster) => roster,
-        Err(_) => unreachable(),
+        Err(_) => unreachable!(),
     }
 }
 
