@@ -8,7 +8,7 @@ use Rattle.wire.specs.declared.fault.Layer.TheVariants as ALayer
 use Rattle.wire.specs.declared.fault.Refusal.{Refusal}
 use Rattle.wire.specs.declared.fault.ShortBuffer.{ShortBuffer}
 use Rattle.wire.specs.declared.message.Message.{Message}
-use Rattle.little_endian.specs.Bytes.{Octets, number}
+use Rattle.little_endian.specs.Bytes.{Octets}
 use Rattle.wire.specs.Faults.{refused}
 use Rattle.wire.specs.Format.{Item, message, comment, meaning, chain, body_bytes, message_bytes, comment_bytes, item_bytes, file_bytes}
 use Rattle.wire.specs.Reading.{bad_length, record_at, record_length, record_kind, parsed, entry_at, message_from, well_formed, with_first, onward, messages_within, messages_at, room, reading, file_answer, counted, filled}

@@ -1,6 +1,6 @@
 use Rattle.std.proofs.Common.{◌≡◌, ◌+◌, ◌-◌, ◌<◌, length, drop, Ok, sym, refl, ap, ◌∙◌, subst, arith}
 use native.Mathlib.Nat.{sub-zero}
-use Rattle.wire.specs.Reading.{messages_at, records_left, room, entry_answer, entry_content, filled, Reads}
+use Rattle.wire.specs.Reading.{messages_at, records_left, room, entry_answer, entry_content, Reads}
 use Rattle.wire.proofs.FileLaws.{Went, went_by, at_end, at_fault, still_of, within, falls, past_comment, past_message, has_room}
 use Rattle.wire.proofs.TableLaws.{laid, laid_first, laid_all, few, reads_rest, at_most_more}
 use Rattle.wire.proofs.file_layer.fill.Goals as goal
