@@ -1,6 +1,6 @@
 -- What is read is a message or a comment as it is written, record by record.
 use Rattle.std.proofs.Common.{◌≡◌, ℕ, zero, suc, ◌+◌, ◌-◌, ◌*◌, ◌^◌, ◌<◌, ◌≤◌, min, true, List, [], ◌∷◌, ◌++◌, length, get_or, take, drop, replicate, Some, None, Ok, sym, ap, ◌∙◌, subst, append_assoc, arith}
-use Rattle.std.specs.List.{flat_map, AllByRecursion as All}
+use Rattle.std.specs.List.{flat_map, AllByRecursion}
 use Rattle.std.proofs.lemmas.List.{length-append, length-take, length-drop, take_at, take-append-drop, drop-drop, nil_from_length}
 use Rattle.std.proofs.lemmas.Bool.Decides.{nat_tests}
 use Rattle.wire.specs.declared.message.Message.{Message}
@@ -65,7 +65,7 @@ pub read_none_bytes : (offset : ℕ) (bytes : List ℕ) → record_at offset byt
 unfolding record_at
 read_none_bytes offset bytes e = grind (arith, nat_tests)
 
-sized_signatures : (k : ℕ) (bytes : List ℕ) → length bytes ≡ 9 * k → Octets bytes → All (λ s. (s.signer < 256) × (s.tag < 2 ^ 64)) (signatures_from k bytes)
+sized_signatures : (k : ℕ) (bytes : List ℕ) → length bytes ≡ 9 * k → Octets bytes → AllByRecursion (λ s. (s.signer < 256) × (s.tag < 2 ^ 64)) (signatures_from k bytes)
 sized_signatures zero bytes h o = tt
 sized_signatures (suc k) bytes h o =
     let tag = first_below 8 (drop 1 bytes) (Octets-drop 1 bytes o) in
@@ -84,7 +84,7 @@ sized_body body o (long, few, size) =
       sender = octet_at body 1 (omega arith) o;
       receiver = octet_at body 2 (omega arith) o;
       value = first_below 8 (drop 4 body) (Octets-drop 4 body o);
-      signed = subst (All (λ s. (s.signer < 256) × (s.tag < 2 ^ 64))) (sym signed) (sized_signatures c (drop 12 body) rest (Octets-drop 12 body o));
+      signed = subst (AllByRecursion (λ s. (s.signer < 256) × (s.tag < 2 ^ 64))) (sym signed) (sized_signatures c (drop 12 body) rest (Octets-drop 12 body o));
     }
 
 -- the bytes begin with the item, written, and what is left comes after it

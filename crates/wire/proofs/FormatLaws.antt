@@ -1,6 +1,6 @@
 -- What is written is read back, record by record.
 use Rattle.std.proofs.Common.{◌≡◌, ℕ, ◌+◌, ◌-◌, ◌*◌, ◌^◌, ◌<◌, ◌≤◌, min, true, List, [], ◌∷◌, ◌++◌, length, take, drop, replicate, Some, Ok, sym, refl, ap, ◌∙◌, arith}
-use Rattle.std.specs.List.{flat_map, AllByRecursion as All}
+use Rattle.std.specs.List.{flat_map, AllByRecursion}
 use Rattle.std.proofs.lemmas.List.{length-append, length-take, take_at, drop_at}
 use Rattle.std.proofs.lemmas.Bool.{and_from, le-leb, eq-eqb, cond-true}
 use Rattle.wire.specs.declared.message.Signature.{Signature}
@@ -46,7 +46,7 @@ read_comment offset text rest h =
     ap (parsed offset) (at ∙ ap (λ b. Ok (Some (comment b))) (read_body 2 text rest fits))
 
 -- the signatures of a chain
-pub read_signatures : (ss : List Signature) → All (λ s. (s.signer < 256) × (s.tag < 2 ^ 64)) ss → signatures_from (length ss) (flat_map signature_bytes ss) ≡ ss
+pub read_signatures : (ss : List Signature) → AllByRecursion (λ s. (s.signer < 256) × (s.tag < 2 ^ 64)) ss → signatures_from (length ss) (flat_map signature_bytes ss) ≡ ss
 read_signatures [] h = refl
 read_signatures (s ∷ ss) (h, hs) =
     let tag : number (little 8 s.tag) ≡ s.tag = number-little 8 s.tag h.1 in

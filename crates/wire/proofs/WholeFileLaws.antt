@@ -1,6 +1,6 @@
 -- Whole files: what is written is read, what is read was written, and a refusal names the first record at fault.
 use Rattle.std.proofs.Common.{◌≡◌, ℕ, zero, suc, ◌+◌, ◌-◌, ◌<◌, ◌≤◌, Bool, true, false, cond, eqb, leb, ◌⊎◌, List, [], ◌∷◌, ◌++◌, map, length, take, drop, Some, None, Ok, Err, Option, Result, sym, refl, ap, ◌∙◌, subst, inl, inr, ⊎_elim, append_assoc, append-nil, zero-add, arith}
-use Rattle.std.specs.List.{AllByRecursion as All}
+use Rattle.std.specs.List.{AllByRecursion}
 use Rattle.std.proofs.lemmas.List.{length-append, length-drop, length-map, take_at, nil_from_length}
 use Rattle.std.proofs.lemmas.Bool.{cases_lt, eqb-true, eqb-false, cond_both, cond-false}
 use Rattle.wire.specs.declared.fault.FileFault.{FileFault}
@@ -25,7 +25,7 @@ message_fits : (m : Message) → 4 + length (body_bytes m) < 65536
 message_fits m = omega (arith, length-signature_bytes (chain m), chain_short m)
 
 -- the messages of a file that was written
-read_all : (items : List (Item Message)) (room offset : ℕ) → All Writable items → length (messages_of items) ≤ room → messages_at room offset (file_bytes items) ≡ Ok (map read_back (messages_of items))
+read_all : (items : List (Item Message)) (room offset : ℕ) → AllByRecursion Writable items → length (messages_of items) ≤ room → messages_at room offset (file_bytes items) ≡ Ok (map read_back (messages_of items))
 read_all [] room offset w h = at_end room offset [] (ap (parsed offset) (sym (record_none offset [] refl)))
 read_all (message m ∷ items) room offset w h =
     let bytes = message_bytes m ++ file_bytes items in
@@ -37,7 +37,7 @@ read_all (comment text ∷ items) room offset w h =
     at_comment room offset bytes text (read_comment offset text (file_bytes items) w.0)
     ∙ ap (messages_at room (offset + record_length bytes)) (read_rest 2 text (file_bytes items) fits) ∙ read_all items room (offset + record_length bytes) w.1 h
 
-meanings : (items : List (Item Message)) → All Writable items → map meaning (map read_back (messages_of items)) ≡ map meaning (messages_of items)
+meanings : (items : List (Item Message)) → AllByRecursion Writable items → map meaning (map read_back (messages_of items)) ≡ map meaning (messages_of items)
 meanings [] w = refl
 meanings (message m ∷ items) w = λ i. read_back_means m w.0 i ∷ meanings items w.1 i
 meanings (comment text ∷ items) w = meanings items w.1
@@ -50,7 +50,7 @@ Ends places offset items rest (Err refusal) = (refusal.offset ≡ offset + lengt
 pub record Cut (places offset : ℕ) (bytes : List ℕ) (r : Result (List Message) Refusal) : Type 0 where
   pub items : List (Item Message)
   pub rest : List ℕ
-  pub writable : All Writable items
+  pub writable : AllByRecursion Writable items
   pub split : bytes ≡ file_bytes items ++ rest
   pub ends : Ends places offset items rest r
 
@@ -154,7 +154,7 @@ cut_file : (file : List ℕ) (places : ℕ) → Octets file → length file ≤ 
 cut_file file places o small = subst (Cut (room places) 0 file) (sym (reading_small file places small)) (cut_within (length file) (room places) 0 file (omega arith) o)
 
 -- what was written is read
-pub written_is_read : (file : List ℕ) (places : ℕ) (items : List (Item Message)) → All Writable items → file ≡ file_bytes items → length file ≤ 32768 → length (messages_of items) ≤ room places → reading file places ≡ Ok (map read_back (messages_of items))
+pub written_is_read : (file : List ℕ) (places : ℕ) (items : List (Item Message)) → AllByRecursion Writable items → file ≡ file_bytes items → length file ≤ 32768 → length (messages_of items) ≤ room places → reading file places ≡ Ok (map read_back (messages_of items))
 written_is_read file places items w is small few = reading_small file places small ∙ ap (messages_at (room places) 0) is ∙ read_all items (room places) 0 w few
 
 count_is : (r : Result ℕ FileFault) (n : ℕ) → file_answer r ≡ Ok n → r ≡ Ok n

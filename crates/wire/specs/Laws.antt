@@ -1,7 +1,7 @@
 -- Reading and writing undo each other, and a refusal names the first record at fault: laws over whole files,
 -- which say nothing of layers or of the order in which a record is looked at.
 use Rattle.std.specs.Prelude.{◌≡◌, ℕ, ◌^◌, ◌<◌, ◌≤◌, min, ◌⊎◌, List, [], ◌∷◌, ◌++◌, map, length, take, Ok, Err, Result, ◌≢◌}
-use Rattle.std.specs.List.{AllByRecursion as All}
+use Rattle.std.specs.List.{AllByRecursion}
 use Rattle.wire.specs.declared.fault.FileFault.{FileFault}
 use Rattle.wire.specs.declared.fault.Refusal.{Refusal}
 use Rattle.wire.specs.declared.fault.ShortBuffer.{ShortBuffer}
@@ -15,7 +15,7 @@ pub record Sized (m : Message) : Type 0 where
   pub sender : m.sender < 256
   pub receiver : m.receiver < 256
   pub value : m.value < 2 ^ 64
-  pub signed : All (λ s. (s.signer < 256) × (s.tag < 2 ^ 64)) (chain m)
+  pub signed : AllByRecursion (λ s. (s.signer < 256) × (s.tag < 2 ^ 64)) (chain m)
 
 -- a record can hold it: its length fits two bytes
 abbrev pub Writable : Item Message → Type 0
@@ -32,13 +32,13 @@ messages_of (comment text ∷ items) = messages_of items
 -- gives those messages in their order, each with the meaning that it had.
 abbrev pub WrittenIsRead : List ℕ → ℕ → Result ℕ FileFault → List Message → Type 0
 WrittenIsRead file places answer table =
-    (items : List (Item Message)) → All Writable items → file ≡ file_bytes items → length file ≤ 32768 → length (messages_of items) ≤ 128 → length (messages_of items) ≤ places →
+    (items : List (Item Message)) → AllByRecursion Writable items → file ≡ file_bytes items → length file ≤ 32768 → length (messages_of items) ≤ 128 → length (messages_of items) ≤ places →
     (answer ≡ Ok (length (messages_of items))) × (map meaning (take (length (messages_of items)) table) ≡ map meaning (messages_of items))
 
 -- A file that is read is nothing but the messages that it gave, written again, with comments between them.
 abbrev pub ReadIsWritten : List ℕ → Result ℕ FileFault → List Message → Type 0
 ReadIsWritten file answer table =
-    (count : ℕ) → answer ≡ Ok count → (items : List (Item Message)) × All Writable items × (file ≡ file_bytes items) × (messages_of items ≡ take count table)
+    (count : ℕ) → answer ≡ Ok count → (items : List (Item Message)) × AllByRecursion Writable items × (file ≡ file_bytes items) × (messages_of items ≡ take count table)
 
 -- bytes that no message and no comment begins
 abbrev pub Unreadable : List ℕ → Type 0
@@ -53,7 +53,7 @@ Overfull places items bytes = (m : Message) × (later : List ℕ) × Sized m × 
 abbrev pub FirstFault : List ℕ → ℕ → Result ℕ FileFault → Type 0
 FirstFault file places answer =
     (refusal : Refusal) → file_answer answer ≡ Err refusal → length file ≤ 32768 →
-    (items : List (Item Message)) × (rest : List ℕ) × All Writable items × (file ≡ file_bytes items ++ rest) × (refusal.offset ≡ length (file_bytes items))
+    (items : List (Item Message)) × (rest : List ℕ) × AllByRecursion Writable items × (file ≡ file_bytes items ++ rest) × (refusal.offset ≡ length (file_bytes items))
     × (((refusal.number < 4) × Unreadable rest) ⊎ ((refusal.number ≡ 4) × Overfull (min places 128) items rest))
 
 -- The bytes that were written, taken for a file, give one message, with the meaning of the one that was written.
