@@ -7,9 +7,8 @@ use little_endian::read_u64;
 
 pub type Key = [u8; 16];
 
-// The tag of a message. It is exported too, for programs in other languages.
-#[unsafe(no_mangle)]
-pub extern "C" fn siphash(key: &Key, message: &[u8]) -> u64
+// The tag of a message.
+pub fn siphash(key: &Key, message: &[u8]) -> u64
     ensures { result ≡ siphash_2_4 key.now message.now }
 {
     let words = message.len() / 8;
