@@ -8,21 +8,20 @@ ghost use Rattle.little_endian.specs.Bytes.{number};
 pub fn read_u64(bytes: &[u8]) -> u64
     ensures { result ≡ number (take 8 bytes.now) }
 {
-    if bytes.len() < 8 {
+    let Some(eight) = bytes.first_chunk::<8>() else {
         return read_few(bytes);
-    }
-    u64::from_le_bytes([
-        bytes[0], bytes[1], bytes[2], bytes[3], bytes[4], bytes[5], bytes[6], bytes[7],
-    ])
+    };
+    u64::from_le_bytes(*eight)
 }
 
+// Begins with the last byte, which is the highest. Each byte shifts up what was read before it.
+#[tactic(auto, using(crate::proofs::ByteLaws::number_turns))]
 fn read_few(bytes: &[u8]) -> u64
     requires { length bytes.now < 8 }
     ensures { result ≡ number bytes.now }
 {
-    let mut number = 0;
-    for i in (0..bytes.len()).rev() {
-        number = number * 256 + u64::from(bytes[i]);
-    }
-    number
+    bytes
+        .iter()
+        .rev()
+        .fold(0, |number, &byte| number << 8 | u64::from(byte))
 }

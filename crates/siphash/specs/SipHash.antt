@@ -1,6 +1,9 @@
 -- SipHash-2-4, as Jean-Philippe Aumasson and Daniel J. Bernstein published it in 2012: a 64-bit tag of a message under a 16-byte key.
 -- A word has 64 bits, and its bytes stand in the message with the lowest first.
-use Rattle.std.specs.Prelude.{ℕ, zero, suc, ◌+◌, ◌-◌, ◌*◌, ◌/◌, ◌%◌, ◌^◌, List, [], ◌∷◌, ◌++◌, length, take, drop, replicate, bit_or, bit_xor}
+use Rattle.std.specs.Prelude.{ℕ, ◌+◌, ◌-◌, ◌*◌, ◌/◌, ◌%◌, ◌^◌, List, [], ◌∷◌, ◌++◌, length, take, drop, map, replicate, bit_or, bit_xor}
+use Rattle.std.specs.Fn.{iterate}
+use Rattle.std.specs.List.{fold}
+use Rattle.std.specs.Simd.{first_chunks}
 use Rattle.little_endian.specs.Bytes.{number}
 use Rattle.siphash.specs.declared.state.State.{State}
 
@@ -30,10 +33,6 @@ round s =
     let t = mixed (p.0 ⋘ 32) q.1 21 in
     record { v0 = t.0; v1 = r.1; v2 = r.0 ⋘ 32; v3 = t.1 }
 
-abbrev pub rounds : ℕ → State → State
-rounds zero s = s
-rounds (suc n) s = round (rounds n s)
-
 -- the words of "somepseudorandomlygeneratedbytes", each combined with a half of the key
 unfoldable pub initial : List ℕ → State
 initial key =
@@ -49,33 +48,23 @@ initial key =
 -- a word of the message is taken in by two rounds
 unfoldable pub absorbed : State → ℕ → State
 absorbed s word =
-    let t = rounds 2 (record { v0 = s.v0; v1 = s.v1; v2 = s.v2; v3 = s.v3 ⊕ word }) in
-    record { v0 = t.v0 ⊕ word; v1 = t.v1; v2 = t.v2; v3 = t.v3 }
-
--- the words one after the other
-abbrev pub absorbed_all : State → List ℕ → State
-absorbed_all s [] = s
-absorbed_all s (word ∷ words) = absorbed_all (absorbed s word) words
+    let t = iterate round 2 (record s { v3 = s.v3 ⊕ word }) in
+    record t { v0 = t.v0 ⊕ word }
 
 -- the tag, after four more rounds
 unfoldable pub finished : State → ℕ
 finished s =
-    let t = rounds 4 (record { v0 = s.v0; v1 = s.v1; v2 = s.v2 ⊕ 0xff; v3 = s.v3 }) in
+    let t = iterate round 4 (record s { v2 = s.v2 ⊕ 0xff }) in
     t.v0 ⊕ t.v1 ⊕ t.v2 ⊕ t.v3
 
--- the end of a message, filled up with zeros to one byte less than whole words; the last byte is the lowest one of the message's size
-abbrev pub padded : ℕ → List ℕ → List ℕ
-padded size bytes = bytes ++ (replicate (7 - length bytes % 8) 0 ++ size % 256 ∷ [])
+-- a message is filled up with zeros to one byte less than whole words; the last byte is the lowest one of its length
+abbrev pub padded : List ℕ → List ℕ
+padded message = message ++ (replicate (7 - length message % 8) 0 ++ length message % 256 ∷ [])
 
--- the first n words that bytes write
-abbrev pub words : ℕ → List ℕ → List ℕ
-words zero bytes = []
-words (suc n) bytes = number (take 8 bytes) ∷ words n (drop 8 bytes)
+-- the words of a message: one more than its bytes fill
+unfoldable pub message_words : List ℕ → List ℕ
+message_words message = map number (first_chunks 8 (length message / 8 + 1) (padded message))
 
--- the words of a message's end: one more than its bytes fill
-unfoldable pub end_words : ℕ → List ℕ → List ℕ
-end_words size bytes = words (length bytes / 8 + 1) (padded size bytes)
-
--- the whole message is its own end
+-- the words are taken in one after the other
 unfoldable pub siphash_2_4 : List ℕ → List ℕ → ℕ
-siphash_2_4 key message = finished (absorbed_all (initial key) (end_words (length message) message))
+siphash_2_4 key message = finished (fold absorbed (initial key) (message_words message))

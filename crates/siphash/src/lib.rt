@@ -6,4 +6,5 @@ mod hash;
 mod state;
 
 pub use example::published_example_holds;
-pub use hash::{Key, siphash};
+pub use hash::siphash;
+pub use state::Key;
