@@ -1,3 +1,2 @@
+pub mod MadeTables
 pub mod RequestFacts
-pub mod RosterFacts
-pub mod SameRosters

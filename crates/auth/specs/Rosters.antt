@@ -1,9 +1,11 @@
 -- Who takes part in a broadcast, and which rosters are made.
-use Rattle.std.specs.Prelude.{ℕ, Bool, false, cond, not, ◌&&◌, nat_lt, List, Ok, Err, Result, nat_le, slice_index_or}
+use Rattle.std.specs.Prelude.{ℕ, ◌≤◌, Bool, false, not, ◌&&◌, nat_lt, List, Ok, Err, Result, nat_le, slice_index_or, if◌then◌else◌}
+use Rattle.std.specs.List.{list_all}
+use Rattle.std.proofs.Common.{lit≤}
 use Rattle.auth.specs.declared.roster.Roster.{Roster}
 use Rattle.auth.specs.declared.roster.RosterFault.{RosterFault}
 use Rattle.auth.specs.declared.roster.RosterFault.TheVariants.{OutOfBounds}
-use Rattle.auth.specs.Lists.{has, all}
+use Rattle.auth.specs.Lists.{has}
 use Rattle.auth.specs.Tables.{table}
 
 -- a node that keeps to the protocol
@@ -23,6 +25,10 @@ pub record Parts : Type 0 where
 abbrev pub fault_number : RosterFault → ℕ
 fault_number OutOfBounds = 6
 
+-- it is among 1 to 15
+pub roster_number : (fault : RosterFault) → (1 ≤ fault_number fault) × (fault_number fault ≤ 15)
+roster_number OutOfBounds = (lit≤ tt, lit≤ tt)
+
 -- an answer as it is told: the roster's parts, or the refusal's number
 abbrev pub roster_answer : Result Roster RosterFault → Result Parts ℕ
 roster_answer (Ok r) = Ok (record { nodes = r.nodes; bound = r.bound; faulty = r.faulty })
@@ -30,9 +36,9 @@ roster_answer (Err f) = Err (fault_number f)
 
 -- the numbers that make a roster: 1 to 16 nodes, a bound below that, and faulty nodes that are among them
 abbrev pub in_bounds : ℕ → ℕ → List ℕ → Bool
-in_bounds nodes bound faulty = nat_le 1 nodes && nat_le nodes 16 && nat_lt bound nodes && all (λ i. nat_lt i nodes) faulty
+in_bounds nodes bound faulty = nat_le 1 nodes && nat_le nodes 16 && nat_lt bound nodes && list_all (λ i. nat_lt i nodes) faulty
 
 -- the roster of which the listed nodes are faulty; out of bounds, the refusal
 abbrev pub roster_from : ℕ → ℕ → List ℕ → Result Parts ℕ
 roster_from nodes bound faulty =
-    cond (in_bounds nodes bound faulty) (Ok (record { nodes = nodes; bound = bound; faulty = table (has faulty) })) (Err 6)
+    if in_bounds nodes bound faulty then Ok (record { nodes = nodes; bound = bound; faulty = table (has faulty) }) else Err 6

@@ -1,5 +1,6 @@
 -- Signing: what the nodes have signed in a turn, what a further request adds, which tags are valid, and which of them are forged.
-use Rattle.std.specs.Prelude.{◌≡◌, ℕ, Bool, false, cond, not, ◌&&◌, ◌||◌, List, [], ◌∷◌, ◌++◌, length, Ok, Err, Result, nat_lt, slice_index_or, slice_set}
+use Rattle.std.specs.Prelude.{◌≡◌, ℕ, ◌≤◌, Bool, false, not, ◌&&◌, ◌||◌, List, [], ◌∷◌, ◌++◌, length, Ok, Err, Result, nat_lt, slice_index_or, slice_set, if◌then◌else◌}
+use Rattle.std.proofs.Common.{lit≤}
 use Rattle.auth.specs.declared.fault.SignFault.{SignFault}
 use Rattle.auth.specs.declared.fault.SignFault.TheVariants.{NotAllowed}
 use Rattle.auth.specs.declared.roster.Roster.{Roster}
@@ -25,15 +26,19 @@ may_sign lists node value = nat_lt node 16 && takes (signed_by lists node) value
 
 -- a value joins a list unless it is there
 abbrev pub with_value : List ℕ → ℕ → List ℕ
-with_value values value = cond (has values value) values (values ++ value ∷ [])
+with_value values value = if has values value then values else values ++ value ∷ []
 
 -- the lists once a node was asked to sign a value: where it may, the value joins its list; the other lists stay
 abbrev pub after_signing : List (List ℕ) → ℕ → ℕ → List (List ℕ)
-after_signing lists node value = cond (may_sign lists node value) (slice_set lists node (with_value (signed_by lists node) value)) lists
+after_signing lists node value = if may_sign lists node value then slice_set lists node (with_value (signed_by lists node) value) else lists
 
 -- the number of the refusal
 abbrev pub sign_fault_number : SignFault → ℕ
 sign_fault_number NotAllowed = 13
+
+-- it is among 1 to 15
+pub signing_number : (fault : SignFault) → (1 ≤ sign_fault_number fault) × (sign_fault_number fault ≤ 15)
+signing_number NotAllowed = (lit≤ tt, lit≤ tt)
 
 -- an answer as it is told, but for the tag: the value is signed, or the refusal's number
 abbrev pub sign_answer : {T : Type 0} → Result T SignFault → Result (Unit {0}) ℕ
@@ -41,7 +46,7 @@ sign_answer (Ok tag) = Ok tt
 sign_answer (Err fault) = Err (sign_fault_number fault)
 
 abbrev pub signing : List (List ℕ) → ℕ → ℕ → Result (Unit {0}) ℕ
-signing lists node value = cond (may_sign lists node value) (Ok tt) (Err 13)
+signing lists node value = if may_sign lists node value then Ok tt else Err 13
 
 -- a rule says which tags are valid: by the turn, the lists, the node, the value and the tag
 abbrev pub Rule : Type 0

@@ -1,5 +1,5 @@
 -- What a turn's signings come to: a law over whole runs of requests.
-use Rattle.std.specs.Prelude.{◌≡◌, ℕ, ◌<◌, cond, List, [], ◌∷◌, ◌++◌, length, take, ◌==◌}
+use Rattle.std.specs.Prelude.{◌≡◌, ℕ, ◌<◌, List, [], ◌∷◌, ◌++◌, length, take, ◌==◌, if◌then◌else◌}
 use Rattle.auth.specs.Lists.{has}
 use Rattle.auth.specs.Signing.{signed_by, none_signed, may_sign, after_signing}
 
@@ -16,12 +16,12 @@ after_all lists (q ∷ qs) = after_all (after_signing lists q.node q.value) qs
 -- what a node is asked to sign, in order
 abbrev pub asked_of : ℕ → List Request → List ℕ
 asked_of node [] = []
-asked_of node (q ∷ qs) = cond (q.node == node) (q.value ∷ asked_of node qs) (asked_of node qs)
+asked_of node (q ∷ qs) = if q.node == node then q.value ∷ asked_of node qs else asked_of node qs
 
 -- the values that are not among those seen, each once, in the order in which they first come
 abbrev pub new_values : List ℕ → List ℕ → List ℕ
 new_values seen [] = []
-new_values seen (v ∷ vs) = cond (has seen v) (new_values seen vs) (v ∷ new_values (seen ++ v ∷ []) vs)
+new_values seen (v ∷ vs) = if has seen v then new_values seen vs else v ∷ new_values (seen ++ v ∷ []) vs
 
 pub record SigningLaws : Type 0 where
   -- whatever is asked of whom in a turn, a node's list has the first two different values that it was asked to sign

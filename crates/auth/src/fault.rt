@@ -2,5 +2,5 @@
 #[derive(Clone, Copy, PartialEq, Eq, Debug)]
 pub enum SignFault {
     // the node is above 15, or has signed two other values in this turn
-    NotAllowed,
+    NotAllowed = 13,
 }

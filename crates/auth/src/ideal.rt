@@ -1,72 +1,57 @@
 ghost use Rattle.std.specs.Prelude.{◌≡◌, ℕ};
 ghost use Rattle.auth.specs.Ideal.{flagged, ideal_rule};
 ghost use Rattle.auth.specs.IdealFacts.{ideal_lasts};
-ghost use Rattle.auth.specs.RecordFacts.{length-lists, few_are_signed};
-ghost use Rattle.auth.specs.Recorded.{lists};
+ghost use Rattle.auth.specs.Recorded.{Begun};
 ghost use Rattle.auth.specs.Rosters.{faulty_node};
-ghost use Rattle.auth.specs.Signing.{Unforgeable, none_signed};
+ghost use Rattle.auth.specs.Signing.{Unforgeable};
 
 use crate::authenticator::Authenticator;
-use crate::fault::SignFault;
+use crate::recording::Recording;
 use crate::roster::{MAX_NODES, Roster};
-use crate::turn_record::TurnRecord;
+use crate::scheme::Scheme;
 
 // A record of what was signed, which all nodes share and believe: what signatures are meant to be.
-// It knows the faulty nodes, since their firms have the keys and may sign anything at any time.
+pub type IdealAuthenticator = Recording<IdealScheme>;
+
+// Every tag is 0, and the record decides which are valid, but for the faulty nodes: their firms have the keys and may sign anything at any time.
 #[derive(Drop)]
-pub struct IdealAuthenticator {
+pub struct IdealScheme {
     faulty: [bool; MAX_NODES],
-    current: TurnRecord,
 }
 
-impl IdealAuthenticator {
+impl Recording<IdealScheme> {
     // Turn 0 is in hand, and nobody has signed. Under its rule no signature of an honest node can be forged, whatever is signed.
     pub fn new(roster: &Roster) -> IdealAuthenticator
-        ensures turn_in_hand { result.current.turn ≡ 0 }
-        ensures nothing_signed { lists result.current ≡ none_signed }
-        ensures same_flags { result.faulty ≡ roster.now.faulty }
-        ensures flags_are_the_faulty_nodes { (node : ℕ) → flagged result.faulty node ≡ faulty_node roster.now node }
-        ensures unforgeable { Unforgeable roster.now (ideal_rule result.faulty) }
+        ensures begun { Begun result.current 0 }
+        ensures same_flags { result.scheme.faulty ≡ roster.now.faulty }
+        ensures flags_are_the_faulty_nodes { (node : ℕ) → flagged result.scheme.faulty node ≡ faulty_node roster.now node }
+        ensures unforgeable { Unforgeable roster.now (⟦<IdealAuthenticator as Authenticator>⟧.rule result) }
     {
-        IdealAuthenticator {
+        Recording::over(IdealScheme {
             faulty: roster.faulty,
-            current: TurnRecord::new(0),
-        }
+        })
     }
+}
 
+impl IdealScheme {
+    // As the roster's, but of the flags alone; a type for them would be longer than the two lines.
     fn is_faulty(&self, node: u8) -> bool
         ensures { result ≡ flagged self.now.faulty node }
     {
-        let place = node as usize;
-        place < MAX_NODES && self.faulty[place]
+        self.faulty.get(usize::from(node)) == Some(&true)
     }
 }
 
-impl Authenticator for IdealAuthenticator {
-    ghost turn = { λ a. a.current.turn };
+impl Scheme for IdealScheme {
+    ghost rule = { λ s. ideal_rule s.faulty };
 
-    ghost signed = { λ a. lists a.current };
+    ghost lasting = { λ s. ideal_lasts s.faulty };
 
-    ghost rule = { λ a. ideal_rule a.faulty };
-
-    ghost eight_bits = { λ a. a.current.eight_bits };
-
-    ghost places = { λ a. length-lists a.current };
-
-    ghost at_most_two = { λ a. few_are_signed a.current };
-
-    ghost lasting = { λ a. ideal_lasts a.faulty };
-
-    fn begin(&mut self, number: u8) {
-        self.current = TurnRecord::new(number);
+    fn tag(&self, _turn: u8, _node: u8, _value: u64) -> u64 {
+        0
     }
 
-    fn sign(&mut self, node: u8, value: u64) -> Result<u64, SignFault> {
-        self.current.sign(node, value)?;
-        Ok(0)
-    }
-
-    fn verify(&self, node: u8, value: u64, tag: u64) -> bool {
-        tag == 0 && (self.is_faulty(node) || self.current.has_signed(node, value))
+    fn is_valid(&self, _turn: u8, node: u8, _value: u64, signed: bool, tag: u64) -> bool {
+        tag == 0 && (self.is_faulty(node) || signed)
     }
 }

@@ -6,8 +6,10 @@ mod fault;
 mod ideal;
 mod laws;
 mod mac;
+mod recording;
 mod roster;
 mod rosters;
+mod scheme;
 mod signing;
 mod turn_record;
 

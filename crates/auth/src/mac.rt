@@ -1,71 +1,47 @@
 ghost use Rattle.std.specs.Prelude.{◌≡◌, ◌<◌};
 ghost use Rattle.auth.specs.Mac.{mac, mac_rule};
-ghost use Rattle.auth.specs.Recorded.{lists};
-ghost use Rattle.auth.specs.Signing.{none_signed};
-ghost use Rattle.auth.specs.RecordFacts.{length-lists, few_are_signed};
+ghost use Rattle.auth.specs.Recorded.{Begun};
 
-use crate::authenticator::Authenticator;
-use crate::fault::SignFault;
+use crate::recording::Recording;
 use crate::roster::MAX_NODES;
-use crate::turn_record::TurnRecord;
+use crate::scheme::Scheme;
 use siphash::{Key, siphash};
 
-// A secret key for each of the nodes 0 to 15, and what they have signed.
+// An authenticator whose tags are SipHash-2-4 over turn and value, under the signer's key.
+pub type MacAuthenticator = Recording<MacScheme>;
+
+// A secret key for each of the nodes 0 to 15.
 #[derive(Drop)]
-pub struct MacAuthenticator {
+pub struct MacScheme {
     keys: [Key; MAX_NODES],
-    current: TurnRecord,
 }
 
-impl MacAuthenticator {
+impl Recording<MacScheme> {
     // Turn 0 is in hand, and nobody has signed.
     pub fn new(keys: &[Key; MAX_NODES]) -> MacAuthenticator
-        ensures turn_in_hand { result.current.turn ≡ 0 }
-        ensures nothing_signed { lists result.current ≡ none_signed }
-        ensures same_keys { result.keys ≡ keys.now }
+        ensures begun { Begun result.current 0 }
+        ensures same_keys { result.scheme.keys ≡ keys.now }
     {
-        MacAuthenticator {
-            keys: *keys,
-            current: TurnRecord::new(0),
-        }
-    }
-
-    // The node's tag for a value in the turn in hand.
-    fn tag(&self, node: u8, value: u64) -> u64
-        requires { node < 16 }
-        ensures { result ≡ mac self.now.keys self.now.current.turn node value }
-    {
-        let [b0, b1, b2, b3, b4, b5, b6, b7] = value.to_le_bytes();
-        let signed = [self.current.turn, b0, b1, b2, b3, b4, b5, b6, b7];
-        siphash(&self.keys[node as usize], &signed)
+        Recording::over(MacScheme { keys: *keys })
     }
 }
 
-impl Authenticator for MacAuthenticator {
-    ghost turn = { λ a. a.current.turn };
+impl Scheme for MacScheme {
+    ghost rule = { λ s. mac_rule s.keys };
 
-    ghost signed = { λ a. lists a.current };
+    ghost lasting = { λ s turn lists node value tag valid signer other. valid };
 
-    ghost rule = { λ a. mac_rule a.keys };
-
-    ghost eight_bits = { λ a. a.current.eight_bits };
-
-    ghost places = { λ a. length-lists a.current };
-
-    ghost at_most_two = { λ a. few_are_signed a.current };
-
-    ghost lasting = { λ a turn lists node value tag valid signer other. valid };
-
-    fn begin(&mut self, number: u8) {
-        self.current = TurnRecord::new(number);
+    fn tag(&self, turn: u8, node: u8, value: u64) -> u64
+        requires { node < 16 }
+        ensures { result ≡ mac self.now.keys turn node value }
+    {
+        // Named one by one, which needs no copy into a part of an array and no proof.
+        let [b0, b1, b2, b3, b4, b5, b6, b7] = value.to_le_bytes();
+        let signed = [turn, b0, b1, b2, b3, b4, b5, b6, b7];
+        siphash(&self.keys[usize::from(node)], &signed)
     }
 
-    fn sign(&mut self, node: u8, value: u64) -> Result<u64, SignFault> {
-        self.current.sign(node, value)?;
-        Ok(self.tag(node, value))
-    }
-
-    fn verify(&self, node: u8, value: u64, tag: u64) -> bool {
-        (node as usize) < MAX_NODES && self.tag(node, value) == tag
+    fn is_valid(&self, turn: u8, node: u8, value: u64, _signed: bool, tag: u64) -> bool {
+        usize::from(node) < MAX_NODES && self.tag(turn, node, value) == tag
     }
 }

@@ -1,6 +1,6 @@
 ghost use Rattle.std.specs.Prelude.{◌≡◌, ℕ, ◌<◌, ◌≤◌, false, length, slice_index_or};
 
-// The most nodes that a roster has, and so the places of a table with one for each.
+// The most nodes that a roster has, and so the places of a table with one for each. Such tables are arrays: the library uses no heap.
 pub const MAX_NODES: usize = 16;
 
 // The nodes of a cluster, numbered from 0, how many faulty ones a protocol is to withstand, and which are faulty.
@@ -22,5 +22,5 @@ pub struct Roster {
 #[derive(Clone, Copy, PartialEq, Eq, Debug)]
 pub enum RosterFault {
     // no node or more than 16, a bound that is not below their number, or a faulty node that is none of them
-    OutOfBounds,
+    OutOfBounds = 6,
 }

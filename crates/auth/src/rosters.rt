@@ -1,27 +1,43 @@
-ghost use Rattle.std.specs.Prelude.{◌≡◌};
-ghost use Rattle.auth.specs.Rosters.{honest, faulty_node, roster_answer, roster_from, fault_number};
+ghost use Rattle.std.specs.Prelude.{◌≡◌, nat_lt};
+ghost use Rattle.std.specs.List.{list_all};
+ghost use Rattle.auth.specs.Rosters.{honest, faulty_node, roster_answer, roster_from, fault_number, roster_number};
+ghost use Rattle.auth.specs.Lists.{has};
+ghost use Rattle.auth.specs.Tables.{table};
 
 use crate::roster::{MAX_NODES, Roster, RosterFault};
+use refusals::Numbered;
+use std::array;
+
+// Whether all that are listed are among so many nodes.
+fn all_below(nodes: u8, listed: &[u8]) -> bool
+    ensures { result ≡ list_all (λ node. nat_lt node nodes) listed.now }
+{
+    listed.iter().all(|node| *node < nodes)
+}
+
+// Which of the sixteen places are listed.
+fn flags(listed: &[u8]) -> [bool; MAX_NODES]
+    ensures { result ≡ table (has listed.now) }
+{
+    array::from_fn(|place| listed.contains(&(place as u8)))
+}
 
 impl Roster {
     // A roster of which the listed nodes are faulty, in any order and as often as they may be listed.
     pub fn new(nodes: u8, bound: u8, faulty: &[u8]) -> Result<Roster, RosterFault>
         ensures answer { roster_answer result ≡ roster_from nodes bound faulty.now }
     {
-        if nodes == 0 || nodes as usize > MAX_NODES || bound >= nodes {
+        if nodes == 0
+            || usize::from(nodes) > MAX_NODES
+            || bound >= nodes
+            || !all_below(nodes, faulty)
+        {
             return Err(RosterFault::OutOfBounds);
-        }
-        let mut flags = [false; MAX_NODES];
-        for node in faulty {
-            if *node >= nodes {
-                return Err(RosterFault::OutOfBounds);
-            }
-            flags[*node as usize] = true;
         }
         Ok(Roster {
             nodes,
             bound,
-            faulty: flags,
+            faulty: flags(faulty),
         })
     }
 
@@ -40,22 +56,25 @@ impl Roster {
     pub fn is_faulty(&self, node: u8) -> bool
         ensures { result ≡ faulty_node self.now node }
     {
-        node < self.nodes && self.faulty[node as usize]
+        node < self.nodes && self.faulty[usize::from(node)]
     }
 
+    // Not the contrary of `is_faulty`, and so not written by it: a number that is no node is neither.
     pub fn is_honest(&self, node: u8) -> bool
         ensures { result ≡ honest self.now node }
     {
-        node < self.nodes && !self.faulty[node as usize]
+        node < self.nodes && !self.faulty[usize::from(node)]
     }
 }
 
-impl RosterFault {
-    pub fn number(&self) -> u8
-        ensures { result ≡ fault_number self.now }
-    {
-        match self {
-            RosterFault::OutOfBounds => 6,
-        }
+impl Numbered for RosterFault {
+    ghost number = { fault_number };
+
+    ghost from_one = { λ fault. (roster_number fault).0 };
+
+    ghost to_fifteen = { λ fault. (roster_number fault).1 };
+
+    fn number(&self) -> u8 {
+        *self as u8
     }
 }

@@ -1,20 +1,23 @@
 ghost use Rattle.std.specs.Prelude.{◌≡◌, OnErr};
 ghost use Rattle.std.specs.Option.{option_map};
 ghost use Rattle.auth.specs.Lists.{has};
-ghost use Rattle.auth.specs.Signing.{signed_by, none_signed, after_signing, sign_answer, signing, sign_fault_number};
-ghost use Rattle.auth.specs.Recorded.{values, lists, joined};
+ghost use Rattle.auth.specs.Signing.{signed_by, after_signing, sign_answer, signing, sign_fault_number, signing_number};
+ghost use Rattle.auth.specs.Recorded.{Begun, values, lists, joined};
 
 use crate::fault::SignFault;
 use crate::roster::MAX_NODES;
 use crate::turn_record::{SignedValues, TurnRecord};
+use refusals::Numbered;
 
-impl SignFault {
-    pub fn number(&self) -> u8
-        ensures { result ≡ sign_fault_number self.now }
-    {
-        match self {
-            SignFault::NotAllowed => 13,
-        }
+impl Numbered for SignFault {
+    ghost number = { sign_fault_number };
+
+    ghost from_one = { λ fault. (signing_number fault).0 };
+
+    ghost to_fifteen = { λ fault. (signing_number fault).1 };
+
+    fn number(&self) -> u8 {
+        *self as u8
     }
 }
 
@@ -46,9 +49,9 @@ impl SignedValues {
 
 impl TurnRecord {
     // A turn in which nobody has signed.
+    #[tactic(auto, unfolding(crate::specs::Tables::table))]
     pub(crate) fn new(turn: u8) -> TurnRecord
-        ensures turn_in_hand { result.turn ≡ turn }
-        ensures nothing_signed { lists result ≡ none_signed }
+        ensures { Begun result turn }
     {
         TurnRecord {
             turn,
@@ -59,8 +62,9 @@ impl TurnRecord {
     pub(crate) fn has_signed(&self, node: u8, value: u64) -> bool
         ensures { result ≡ has (signed_by (lists self.now) node) value }
     {
-        let place = node as usize;
-        place < MAX_NODES && self.each[place].has(value)
+        self.each
+            .get(usize::from(node))
+            .is_some_and(|values| values.has(value))
     }
 
     // The node signs the value, if it may.
@@ -70,13 +74,12 @@ impl TurnRecord {
         ensures same_turn { self.new.turn ≡ self.old.turn }
         ensures refused_unchanged { OnErr result (self.new ≡ self.old) }
     {
-        let place = node as usize;
-        if place >= MAX_NODES {
-            return Err(SignFault::NotAllowed);
-        }
-        let Some(values) = self.each[place].with(value) else {
-            return Err(SignFault::NotAllowed);
-        };
+        let place = usize::from(node);
+        let values = self
+            .each
+            .get(place)
+            .and_then(|values| values.with(value))
+            .ok_or(SignFault::NotAllowed)?;
         self.each[place] = values;
         Ok(())
     }

@@ -2,7 +2,7 @@ ghost use Rattle.std.specs.Prelude.{◌≡◌, ◌<◌, length};
 
 use crate::roster::MAX_NODES;
 
-// What one node has signed in a turn.
+// What one node has signed in a turn. Two options in a row could hold a second value without a first, and would need an invariant.
 #[derive(Clone, Copy)]
 pub(crate) enum SignedValues {
     Nothing,
@@ -11,7 +11,7 @@ pub(crate) enum SignedValues {
 }
 
 // The turn in hand, and what each of the nodes 0 to 15 has signed in it.
-#[derive(Clone, Copy)]
+#[derive(Drop)]
 pub(crate) struct TurnRecord {
     pub(crate) turn: u8,
     pub(crate) each: [SignedValues; MAX_NODES],

@@ -1,4 +1,5 @@
 use auth::{Roster, RosterFault};
+use refusals::Numbered;
 use std::test::Fail;
 
 #[test]

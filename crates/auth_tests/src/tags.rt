@@ -1,5 +1,6 @@
 use crate::keys::KEY;
 use siphash::siphash;
+use std::array;
 
 // The tags that were published with SipHash-2-4: under the key 0 to 15, of the messages of the bytes 0, 1, 2 and so on, with none of
 // them first and 63 last.
@@ -72,11 +73,7 @@ const TAGS: [u64; 64] = [
 
 // The bytes 0, 1, 2 and so on.
 fn counted() -> [u8; 64] {
-    let mut bytes = [0; 64];
-    for i in 0..64 {
-        bytes[i] = i as u8;
-    }
-    bytes
+    array::from_fn(|i| i as u8)
 }
 
 #[test]

@@ -1,8 +1,9 @@
 use auth::{Authenticator, SignFault};
+use refusals::Numbered;
 use std::process::Abort;
 
 // What every authenticator does with the requests of two turns.
-pub(crate) fn two_turns<A: Authenticator>(rt: &impl Abort, authenticator: &mut A) {
+pub(crate) fn two_turns(rt: &impl Abort, authenticator: &mut impl Authenticator) {
     authenticator.begin(255);
     two_values_and_no_third(rt, authenticator);
     the_last_node(rt, authenticator);
@@ -11,7 +12,7 @@ pub(crate) fn two_turns<A: Authenticator>(rt: &impl Abort, authenticator: &mut A
     two_values_and_no_third(rt, authenticator);
 }
 
-fn two_values_and_no_third<A: Authenticator>(rt: &impl Abort, authenticator: &mut A) {
+fn two_values_and_no_third(rt: &impl Abort, authenticator: &mut impl Authenticator) {
     assert!(rt; signs(authenticator, 1, 5));
     assert!(rt; signs(authenticator, 1, u64::MAX));
     assert_eq!(rt; authenticator.sign(1, 7), Err(SignFault::NotAllowed));
@@ -21,7 +22,7 @@ fn two_values_and_no_third<A: Authenticator>(rt: &impl Abort, authenticator: &mu
     assert!(rt; signs(authenticator, 2, 7));
 }
 
-fn the_last_node<A: Authenticator>(rt: &impl Abort, authenticator: &mut A) {
+fn the_last_node(rt: &impl Abort, authenticator: &mut impl Authenticator) {
     assert!(rt; signs(authenticator, 15, 0));
     assert_eq!(rt; authenticator.sign(16, 0), Err(SignFault::NotAllowed));
     assert_eq!(rt; authenticator.sign(255, 0), Err(SignFault::NotAllowed));
@@ -29,9 +30,8 @@ fn the_last_node<A: Authenticator>(rt: &impl Abort, authenticator: &mut A) {
 }
 
 // Whether the node signs the value, with a tag that is valid.
-fn signs<A: Authenticator>(authenticator: &mut A, node: u8, value: u64) -> bool {
-    match authenticator.sign(node, value) {
-        Ok(tag) => authenticator.verify(node, value, tag),
-        Err(_) => false,
-    }
+fn signs(authenticator: &mut impl Authenticator, node: u8, value: u64) -> bool {
+    authenticator
+        .sign(node, value)
+        .is_ok_and(|tag| authenticator.verify(node, value, tag))
 }

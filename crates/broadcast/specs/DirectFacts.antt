@@ -1,28 +1,18 @@
 -- What the direct broadcast's outcomes are, node by node.
-use Rattle.std.specs.Prelude.{◌≡◌, ℕ, ◌+◌, ◌<◌, ◌≤◌, true, false, List, [], ◌∷◌, length, get_or, drop, slice_index, slice_index_or, refl}
+use Rattle.std.specs.Prelude.{◌≡◌, ℕ, ◌≤◌, true, false, List, [], ◌∷◌, length, slice_index, refl}
 use Rattle.std.proofs.Common.{sym, ◌∙◌, arith}
-use Rattle.std.proofs.lemmas.List.{at_drop_more}
-use Rattle.std.proofs.lemmas.Bool.{cond-true, cond-false}
 use Rattle.std.proofs.lemmas.Bool.Decides.{nat_tests}
 use Rattle.auth.specs.declared.roster.Roster.{Roster}
 use Rattle.auth.specs.Rosters.{honest}
 use Rattle.auth.specs.Tables.{length-table, at_table, default_table}
 use Rattle.wire.specs.declared.message.Message.{Message}
 use Rattle.broadcast.specs.Instances.{Instance}
-use Rattle.broadcast.specs.Direct.{from_leader, first_value, direct_outcomes}
+use Rattle.broadcast.specs.Direct.{first_value, direct_outcomes}
 
 -- no message is delivered from a leader that is no node
 value_leaderless : (roster : Roster) (leader node : ℕ) (ms : List Message) → roster.nodes ≤ leader → first_value roster leader node ms ≡ 0
 value_leaderless roster leader node [] past = refl
 value_leaderless roster leader node (m ∷ ms) past = let ih = value_leaderless roster leader node ms past in grind (arith, nat_tests)
-
--- the messages from place i on, by whether the first of them is one from the leader
-module _ (roster : Roster) (leader node : ℕ) (ms : List Message) (i : ℕ) (none : Message) (h : i < length ms) where
-  pub value_here : true ≡ from_leader roster leader node (slice_index_or ms i none) → first_value roster leader node (drop i ms) ≡ (get_or ms i none).value
-  value_here t = at_drop_more (first_value roster leader node) ms i none h ∙ cond-true _ _ _ (sym t)
-
-  pub value_later : false ≡ from_leader roster leader node (slice_index_or ms i none) → first_value roster leader node (drop i ms) ≡ first_value roster leader node (drop (i + 1) ms)
-  value_later t = at_drop_more (first_value roster leader node) ms i none h ∙ cond-false _ _ _ (sym t)
 
 module _ (i : Instance) where
   pub places : length (direct_outcomes i) ≡ 16

@@ -1,8 +1,9 @@
 ghost use Rattle.std.specs.Prelude.{◌≡◌, ℕ, ◌≤◌, Bool, true, false, List, length, slice_index};
 ghost use Rattle.auth.specs.Rosters.{honest};
-ghost use Rattle.broadcast.specs.Instances.{Instance, instance};
+ghost use Rattle.broadcast.specs.Instances.{Instance, given};
 
-use auth::{MAX_NODES, Roster};
+use crate::turn::Turn;
+use auth::MAX_NODES;
 use wire::Message;
 
 // A protocol that brings the leader's proposal to the nodes, whatever the faulty ones send. It never refuses.
@@ -17,16 +18,9 @@ pub trait Broadcast {
     // what the instance may leave of the state
     ghost leaves: { Self → Instance → Self → Type 0 };
 
-    fn broadcast(
-        &mut self,
-        roster: &Roster,
-        turn: u8,
-        leader: u8,
-        proposal: u64,
-        messages: &[Message],
-    ) -> [u64; MAX_NODES]
-        ensures answer { result ≡ outcomes self.old (instance roster.now turn leader proposal messages.now) }
-        ensures after { leaves self.old (instance roster.now turn leader proposal messages.now) self.new };
+    fn broadcast(&mut self, turn: &Turn, messages: &[Message]) -> [u64; MAX_NODES]
+        ensures answer { result ≡ outcomes self.old (given turn.now messages.now) }
+        ensures after { leaves self.old (given turn.now messages.now) self.new };
 
     // sixteen outcomes
     ghost places: { (b : Self) (i : Instance) → length (outcomes b i) ≡ 16 };

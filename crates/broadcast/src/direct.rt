@@ -5,7 +5,8 @@ ghost use Rattle.broadcast.specs.DirectFacts;
 
 use crate::broadcast::Broadcast;
 use crate::delivery::is_delivered;
-use auth::{MAX_NODES, Roster};
+use crate::turn::Turn;
+use auth::MAX_NODES;
 use wire::Message;
 
 // Each node takes the first value that the leader sends it.
@@ -30,53 +31,42 @@ impl Broadcast for DirectBroadcast {
 
     ghost validity = { λ _ i led _. DirectFacts.valid i led };
 
-    fn broadcast(
-        &mut self,
-        roster: &Roster,
-        _turn: u8,
-        leader: u8,
-        proposal: u64,
-        messages: &[Message],
-    ) -> [u64; MAX_NODES] {
-        let mut outcomes = [0; MAX_NODES];
-        for node in 0..MAX_NODES as u8 {
-            outcomes[node as usize] = outcome(roster, leader, proposal, messages, node);
-        }
-        outcomes
+    fn broadcast(&mut self, turn: &Turn, messages: &[Message]) -> [u64; MAX_NODES] {
+        std::array::from_fn(|node| turn.outcome(node as u8, messages))
     }
 }
 
-// The value that a node ends with; a faulty node and a place without a node have 0.
-fn outcome(roster: &Roster, leader: u8, proposal: u64, messages: &[Message], node: u8) -> u64
-    ensures { result ≡ direct_outcome roster.now leader proposal messages.now node }
-{
-    if !roster.is_honest(node) {
-        0
-    } else if roster.is_honest(leader) {
-        proposal
-    } else {
-        first_value(roster, leader, node, messages)
-    }
-}
-
-// The value of the first message from the leader to the node, or 0.
-fn first_value(roster: &Roster, leader: u8, node: u8, messages: &[Message]) -> u64
-    ensures { result ≡ first_value roster.now leader node messages.now }
-{
-    for message in messages {
-        if is_from_leader(roster, leader, node, message) {
-            return message.value;
+impl Turn {
+    // The value that a node ends with; a faulty node and a place without a node have 0.
+    fn outcome(&self, node: u8, messages: &[Message]) -> u64
+        ensures { result ≡ direct_outcome self.now.roster self.now.leader self.now.proposal messages.now node }
+    {
+        if !self.roster.is_honest(node) {
+            0
+        } else if self.roster.is_honest(self.leader) {
+            self.proposal
+        } else {
+            self.first_value(node, messages)
         }
     }
-    0
-}
 
-// Whether the message is of round 0 and arrives at the node from the leader.
-fn is_from_leader(roster: &Roster, leader: u8, node: u8, message: &Message) -> bool
-    ensures { result ≡ from_leader roster.now leader node message.now }
-{
-    message.round == 0
-        && message.sender == leader
-        && message.receiver == node
-        && is_delivered(roster, message)
+    // The value of the first message from the leader to the node, or 0.
+    fn first_value(&self, node: u8, messages: &[Message]) -> u64
+        ensures { result ≡ first_value self.now.roster self.now.leader node messages.now }
+    {
+        messages
+            .iter()
+            .find(|message| self.is_from_leader(node, message))
+            .map_or(0, |message| message.value)
+    }
+
+    // Whether the message is of round 0 and arrives at the node from the leader.
+    fn is_from_leader(&self, node: u8, message: &Message) -> bool
+        ensures { result ≡ from_leader self.now.roster self.now.leader node message.now }
+    {
+        message.round == 0
+            && message.sender == self.leader
+            && message.receiver == node
+            && is_delivered(&self.roster, message)
+    }
 }

@@ -1,16 +1,15 @@
 use auth::Roster;
-use broadcast::{Broadcast, DirectBroadcast};
+use broadcast::{Broadcast, DirectBroadcast, Turn};
 use std::test::Fail;
-use wire::{Message, Signature};
+use wire::Message;
 
 fn sent(round: u8, sender: u8, receiver: u8, value: u64) -> Message {
     Message {
         round,
         sender,
         receiver,
-        count: 0,
         value,
-        signatures: [Signature { signer: 0, tag: 0 }; 16],
+        ..Message::default()
     }
 }
 
@@ -18,7 +17,15 @@ fn sent(round: u8, sender: u8, receiver: u8, value: u64) -> Message {
 fn a_faulty_leader_parts_the_nodes(rt: HostRuntime) -> Result<(), Fail> {
     let roster = Roster::new(3, 1, &[0])?;
     let messages = [sent(0, 0, 1, 5), sent(0, 0, 2, 6), sent(0, 0, 2, 7)];
-    let outcomes = DirectBroadcast.broadcast(&roster, 9, 0, 8, &messages);
+    let outcomes = DirectBroadcast.broadcast(
+        &Turn {
+            roster,
+            number: 9,
+            leader: 0,
+            proposal: 8,
+        },
+        &messages,
+    );
     assert!(rt; outcomes == [0, 5, 6, 0, 0, 0, 0, 0, 0, 0, 0, 0, 0, 0, 0, 0]);
     Ok(())
 }
@@ -27,7 +34,15 @@ fn a_faulty_leader_parts_the_nodes(rt: HostRuntime) -> Result<(), Fail> {
 fn an_honest_leader_brings_its_proposal(rt: HostRuntime) -> Result<(), Fail> {
     let roster = Roster::new(16, 15, &[1, 15])?;
     let messages = [sent(0, 1, 2, 5), sent(0, 15, 3, 6)];
-    let outcomes = DirectBroadcast.broadcast(&roster, 255, 0, u64::MAX, &messages);
+    let outcomes = DirectBroadcast.broadcast(
+        &Turn {
+            roster,
+            number: 255,
+            leader: 0,
+            proposal: u64::MAX,
+        },
+        &messages,
+    );
     let all = u64::MAX;
     assert!(rt;
         outcomes
@@ -42,6 +57,16 @@ fn an_honest_leader_brings_its_proposal(rt: HostRuntime) -> Result<(), Fail> {
 fn no_leader_no_outcome(rt: HostRuntime) -> Result<(), Fail> {
     let roster = Roster::new(3, 1, &[0])?;
     let messages = [sent(0, 3, 1, 5), sent(0, 0, 1, 6)];
-    assert!(rt; DirectBroadcast.broadcast(&roster, 0, 3, 8, &messages) == [0; 16]);
+    assert!(rt;
+        DirectBroadcast.broadcast(
+            &Turn {
+                roster,
+                number: 0,
+                leader: 3,
+                proposal: 8
+            },
+            &messages
+        ) == [0; 16]
+    );
     Ok(())
 }

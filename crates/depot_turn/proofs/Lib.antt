@@ -1,2 +1,1 @@
 pub mod TextLaws
-pub mod TurnLaws

@@ -1,15 +1,16 @@
 -- What is printed of a turn, byte by byte.
-use Rattle.std.specs.Prelude.{ℕ, cond, List, [], ◌∷◌, ◌++◌, Ok, Err, codes, decimal, Result, slice_index}
+use Rattle.std.specs.Prelude.{ℕ, if◌then◌else◌, List, [], ◌∷◌, ◌++◌, Ok, Err, codes, decimal, Result, slice_index}
 use Rattle.std.specs.List.{range_with_len, flat_map}
 use Rattle.auth.specs.declared.roster.Roster.{Roster}
 use Rattle.auth.specs.Rosters.{honest}
 use Rattle.wire.specs.declared.fault.Refusal.{Refusal}
+use Rattle.wire.specs.Texts as Wire
 
 abbrev pub newline : List ℕ
 newline = 10 ∷ []
 
 abbrev pub state_name : Roster → ℕ → List ℕ
-state_name roster node = cond (honest roster node) (codes "honest") (codes "faulty")
+state_name roster node = if honest roster node then codes "honest" else codes "faulty"
 
 -- as `1,honest,5`
 abbrev pub node_line : Roster → ℕ → ℕ → List ℕ
@@ -19,9 +20,9 @@ node_line roster node outcome = decimal node ++ (codes "," ++ (state_name roster
 abbrev pub outcomes_text : Roster → List ℕ → List ℕ
 outcomes_text roster outcomes = (codes "box,state,outcome" ++ newline) ++ flat_map (λ node. node_line roster node (slice_index outcomes node)) (range_with_len 0 roster.nodes)
 
--- as `refused 3 at 0`
+-- a line as `refused 3 at 0`
 abbrev pub refusal_text : Refusal → List ℕ
-refusal_text r = codes "refused " ++ (decimal r.number ++ (codes " at " ++ (decimal r.offset ++ newline)))
+refusal_text r = Wire.refusal_text r ++ newline
 
 -- what is said of a turn
 abbrev pub turn_text : Roster → Result (List ℕ) Refusal → List ℕ

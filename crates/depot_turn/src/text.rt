@@ -5,6 +5,7 @@ use auth::{MAX_NODES, Roster};
 use std::alloc::{AllocError, Global};
 use wire::Refusal;
 
+// Two words by one test: an enum of them with a Display would say no more.
 fn state_name(roster: &Roster, node: u8) -> &'static str
     ensures { result.now ≡ state_name roster.now node }
 {
@@ -13,13 +14,6 @@ fn state_name(roster: &Roster, node: u8) -> &'static str
     } else {
         "faulty"
     }
-}
-
-fn node_line(heap: Global, roster: &Roster, node: u8, outcome: u64) -> Result<String, AllocError>
-    ensures { IfOk result (λ s. string_bytes s ≡ node_line roster.now node outcome) }
-{
-    let state = state_name(roster, node);
-    format!(in heap; "{node},{state},{outcome}\n")
 }
 
 // A heading, and then a line for each node.
@@ -31,9 +25,9 @@ pub fn outcomes_text(
     ensures { IfOk result (λ s. string_bytes s ≡ outcomes_text roster.now outcomes.now) }
 {
     let mut text = String::from_str(heap, "box,state,outcome\n")?;
-    for node in 0..roster.nodes() {
-        let line = node_line(heap, roster, node, outcomes[node as usize])?;
-        text.push_str(line.as_str())?;
+    for (node, outcome) in (0..roster.nodes()).zip(outcomes) {
+        let state = state_name(roster, node);
+        writeln!(text, "{node},{state},{outcome}")?;
     }
     Ok(text)
 }
@@ -41,7 +35,5 @@ pub fn outcomes_text(
 pub fn refusal_text(heap: Global, refusal: &Refusal) -> Result<String, AllocError>
     ensures { IfOk result (λ s. string_bytes s ≡ refusal_text refusal.now) }
 {
-    let number = refusal.number;
-    let offset = refusal.offset;
-    format!(in heap; "refused {number} at {offset}\n")
+    format!(in heap; "{refusal}\n")
 }

@@ -3,18 +3,10 @@ use Rattle.std.proofs.Common.{◌≡◌, ℕ, zero, suc, ◌+◌, ◌*◌, ◌/�
 use native.Mathlib.Nat.{div-div-eq-div-mul, one-le-pow}
 use Rattle.std.specs.List.{fold}
 use Rattle.std.proofs.lemmas.Nat.{div_below, or_shifted}
-use Rattle.std.proofs.lemmas.List.{get_or-drop, length-drop, length-take, length-take-le, reverse-append}
+use Rattle.std.proofs.lemmas.List.{length-take, length-take-le, reverse-append}
 use Rattle.std.proofs.lemmas.List.Elements.{All-from_recursion, recursion_from_All, All-from_get_or, All-take, All-drop}
 use Rattle.std.proofs.lemmas.List.Sums.{fold-append}
 use Rattle.little_endian.specs.Bytes.{Octets, little, number}
-
-number_two : (bs : List ℕ) → 2 ≤ length bs → get_or bs 0 0 + get_or bs 1 0 * 256 ≡ number (take 2 bs)
-number_two (a ∷ b ∷ bs) h = omega arith
-number_two _ h = absurd (omega arith)
-
--- two bytes at a place
-pub number_two_at : (bs : List ℕ) (k : ℕ) → k + 2 ≤ length bs → get_or bs (k + 0) 0 + get_or bs (k + 1) 0 * 256 ≡ number (take 2 (drop k bs))
-number_two_at bs k h = rw (← get_or-drop k bs 0 0, ← get_or-drop k bs 1 0) (number_two (drop k bs) (simp length-drop (omega arith)))
 
 -- the bytes that the code takes a number apart into
 pub little_eight : (n : ℕ) → n % 256 ∷ n / 256 % 256 ∷ n / 65536 % 256 ∷ n / 16777216 % 256 ∷ n / 4294967296 % 256 ∷ n / 1099511627776 % 256 ∷ n / 281474976710656 % 256 ∷ n / 72057594037927936 % 256 ∷ [] ≡ little 8 n

@@ -35,7 +35,7 @@ signatures_again (suc k) (b ∷ bytes) h (_, o) =
     let rest : length (drop 8 bytes) ≡ 9 * k = simp length-drop (omega arith) in
     ap (λ t. b ∷ t) ((λ i. little_first 8 bytes (omega arith) o i ++ signatures_again k (drop 8 bytes) rest (Octets-drop 8 bytes o) i) ∙ take-append-drop 8 bytes)
 
-well_formed_parts : (body : List ℕ) → well_formed body ≡ true → (12 ≤ length body) × (get_or body 3 0 ≤ 16) × (length body ≡ 12 + 9 * get_or body 3 0)
+pub well_formed_parts : (body : List ℕ) → well_formed body ≡ true → (12 ≤ length body) × (get_or body 3 0 ≤ 16) × (length body ≡ 12 + 9 * get_or body 3 0)
 well_formed_parts body w = (grind (arith, nat_tests), grind (arith, nat_tests), grind (arith, nat_tests))
 
 body_again : (body : List ℕ) → Octets body → (12 ≤ length body) × (get_or body 3 0 ≤ 16) × (length body ≡ 12 + 9 * get_or body 3 0) → body_bytes (message_from body) ≡ body

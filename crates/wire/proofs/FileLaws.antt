@@ -1,16 +1,16 @@
 -- The file layer, one record at a time.
-use Rattle.std.proofs.Common.{◌≡◌, ℕ, zero, suc, ◌+◌, ◌-◌, ◌<◌, ◌≤◌, cond, eqb, List, [], length, drop, Some, None, Ok, Err, Option, Result, sym, refl, ap, ◌∙◌, subst, ⊎_elim, arith}
+use Rattle.std.proofs.Common.{◌≡◌, ℕ, zero, suc, ◌+◌, ◌-◌, ◌<◌, ◌≤◌, cond, eqb, List, [], length, drop, Some, None, Ok, Err, Option, Result, sym, refl, ap, ◌∙◌, arith}
 use Rattle.std.proofs.lemmas.List.{drop-drop, length-drop}
-use Rattle.std.proofs.lemmas.Bool.{cases_lt, cond-true, cond-false, eq-eqb, ne_eqb, lt-ltb, le-ltb}
+use Rattle.std.proofs.lemmas.Bool.{cond-true, cond-false, ne_eqb, lt-ltb, le-ltb}
 use Rattle.std.proofs.lemmas.Bool.Decides.{nat_tests}
 use Rattle.wire.specs.declared.fault.Layer.TheVariants as ALayer
 use Rattle.wire.specs.declared.fault.MessageFault.{MessageFault}
 use Rattle.wire.specs.declared.fault.Refusal.{Refusal}
 use Rattle.wire.specs.declared.message.Message.{Message}
-use Rattle.wire.specs.Faults.{refused}
+use Rattle.wire.specs.Faults.{refused, message_refusal}
 use Rattle.wire.specs.Format.{Item, message, comment}
-use Rattle.wire.specs.Reading.{record_at, record_length, parsed, entry_at, onward, with_first, messages_within, messages_at, records_left, counted, filled, passed, entry_answer, entry_content, Reads, room, reading}
-use Rattle.wire.specs.declared.entry.Entry.{Entry}
+use Rattle.wire.specs.Reading.{record_at, record_length, parsed, entry_at, onward, with_first, messages_within, messages_at, records_left, counted, filled, passed, entry_answer, content, room, reading, taken}
+use Rattle.wire.specs.declared.item.Item.{Item as Held}
 use Rattle.wire.specs.declared.records.Records.{Records}
 use Rattle.wire.proofs.RecordLaws.{record_none}
 
@@ -23,9 +23,9 @@ unfolding record_at
 record_lies offset bytes x e = (grind (arith, nat_tests), grind (arith, nat_tests))
 
 parsed_some : (offset : ℕ) (r : Result (Option (Item (List ℕ))) Refusal) (x : Item Message) → parsed offset r ≡ Ok (Some x) → (y : Item (List ℕ)) × (r ≡ Ok (Some y))
-parsed_some offset (Ok None) x e = let z : ◌≡◌ {A = ℕ} 0 1 = cc in absurd (omega arith)
+parsed_some offset (Ok None) x e = cc
 parsed_some offset (Ok (Some y)) x e = (y, refl)
-parsed_some offset (Err refusal) x e = let z : ◌≡◌ {A = ℕ} 0 1 = cc in absurd (omega arith)
+parsed_some offset (Err refusal) x e = cc
 
 pub entry_lies : (offset : ℕ) (bytes : List ℕ) (x : Item Message) → entry_at offset bytes ≡ Ok (Some x) → Lies bytes
 entry_lies offset bytes x e = let (y, is) = parsed_some offset (record_at offset bytes) x e in record_lies offset bytes y is
@@ -73,59 +73,27 @@ module _ (room offset : ℕ) (bytes : List ℕ) where
   pub at_comment : (text : List ℕ) → entry_at offset bytes ≡ Ok (Some (comment text)) → messages_at room offset bytes ≡ messages_at room (offset + record_length bytes) (drop (record_length bytes) bytes)
   at_comment text e = step ∙ ap (λ r. onward room offset r after) e
 
-  pub at_full : (m : Message) → entry_at offset bytes ≡ Ok (Some (message m)) → room ≡ 0 → messages_at room offset bytes ≡ Err (refused 4 offset ALayer.File)
-  at_full m e none = step ∙ ap (λ r. onward room offset r after) e ∙ cond-true _ _ _ (eq-eqb room 0 none)
-
   pub at_message : (m : Message) → entry_at offset bytes ≡ Ok (Some (message m)) → 0 < room → messages_at room offset bytes ≡ with_first m (messages_at (room - 1) (offset + record_length bytes) (drop (record_length bytes) bytes))
   at_message m e some = step ∙ ap (λ r. onward room offset r after) e ∙ cond-false _ _ _ (ne_eqb room 0 (λ z. omega arith))
 
--- what is known of a reader of the file before and after it has given an entry
-pub record Went (file : List ℕ) (s s' : Records) (e : Entry) : Type 0 where
-  pub of : s.file.now ≡ file
-  pub read : Ok (Some (entry_content e)) ≡ entry_at s.offset (records_left s)
-  pub on : s'.offset ≡ s.offset + record_length (records_left s)
-  pub same : s'.file.now ≡ s.file.now
-
-pub went_by : (file : List ℕ) (s s' : Records) (e : Entry) (r : Result (Option Entry) MessageFault) → s.file.now ≡ file → r ≡ Ok (Some e) → entry_answer r ≡ entry_at s.offset (records_left s) → s'.offset ≡ passed s.offset (records_left s) r → s'.file.now ≡ s.file.now → Went file s s' e
-went_by file s s' e r of was answer on same = record { of = of; read = sym (ap entry_answer was) ∙ answer; on = on ∙ ap (passed s.offset (records_left s)) was; same = same }
-
-module _ {file : List ℕ} {s s' : Records} {e : Entry} (went : Went file s s' e) where
-  lies : Lies (records_left s)
-  lies = entry_lies s.offset (records_left s) (entry_content e) (sym went.read)
-
-  pub still_of : s'.file.now ≡ file
-  still_of = went.same ∙ went.of
-
-  pub within : s.offset ≤ length file → s'.offset ≤ length file
-  within h = let (least, most) = lies in omega (arith, went.on, most, length-drop s.offset s.file.now, ap length went.of)
-
-  pub falls : s.offset ≤ length file → length file - s'.offset < length file - s.offset
-  falls h = let (least, most) = lies in omega (arith, went.on, within h)
+-- what is known of a reader of entries that has given an item
+module _ (s s' : Records) (r : Result (Option (Held Message)) MessageFault) (item : Held Message) (was : r ≡ Ok (Some item)) (answer : entry_answer r ≡ entry_at s.offset (records_left s)) (on : s'.offset ≡ passed s.offset (records_left s) r) (same : s'.file.now ≡ s.file.now) where
+  read : entry_at s.offset (records_left s) ≡ Ok (Some (content (λ m. m) item))
+  read = sym answer ∙ ap entry_answer was
 
   left_after : drop (record_length (records_left s)) (records_left s) ≡ records_left s'
-  left_after = drop-drop (record_length (records_left s)) s.offset s.file.now ∙ (λ i. drop (sym went.on i) (sym went.same i))
+  left_after = drop-drop (record_length (records_left s)) s.offset s.file.now ∙ (λ i. drop (sym (on ∙ ap (passed s.offset (records_left s)) was) i) (sym same i))
 
-  messages_after : (room : ℕ) → messages_at room (s.offset + record_length (records_left s)) (drop (record_length (records_left s)) (records_left s)) ≡ messages_at room s'.offset (records_left s')
-  messages_after room = λ i. messages_at room (sym went.on i) (left_after i)
+  pub falls : length (records_left s') < length (records_left s)
+  falls = let (least, most) = entry_lies s.offset (records_left s) _ read in omega (arith, length-drop (record_length (records_left s)) (records_left s), ap length left_after)
 
-  pub past_comment : (room : ℕ) (text : List ℕ) → entry_content e ≡ comment text → messages_at room s.offset (records_left s) ≡ messages_at room s'.offset (records_left s')
-  past_comment room text is = at_comment room s.offset (records_left s) text (sym went.read ∙ ap (λ y. Ok (Some y)) is) ∙ messages_after room
+  pub past : (places : ℕ) → messages_at places s.offset (records_left s) ≡ onward places s.offset (Ok (Some (content (λ m. m) item))) (λ left. messages_at left s'.offset (records_left s'))
+  past places =
+      step places s.offset (records_left s) ∙ ap (λ e. onward places s.offset e (after places s.offset (records_left s))) read
+      ∙ onward_same places s.offset (Ok (Some (content (λ m. m) item))) _ _ (λ _ _ left i. messages_at left (sym (on ∙ ap (passed s.offset (records_left s)) was) i) (left_after i))
 
-  pub no_room : (room : ℕ) (m : Message) → entry_content e ≡ message m → room ≡ 0 → messages_at room s.offset (records_left s) ≡ Err (refused 4 s.offset ALayer.File)
-  no_room room m is = at_full room s.offset (records_left s) m (sym went.read ∙ ap (λ y. Ok (Some y)) is)
-
-  pub past_message : (room left : ℕ) (m : Message) → entry_content e ≡ message m → room ≡ left + 1 → messages_at room s.offset (records_left s) ≡ with_first m (messages_at left s'.offset (records_left s'))
-  past_message room left m is more =
-      let less : room - 1 ≡ left = omega arith in
-      at_message room s.offset (records_left s) m (sym went.read ∙ ap (λ y. Ok (Some y)) is) (omega arith) ∙ ap (with_first m) (messages_after (room - 1) ∙ ap (λ n. messages_at n s'.offset (records_left s')) less)
-
-  -- a message that is not refused has room
-  pub has_room : (room : ℕ) (m : Message) → entry_content e ≡ message m → Reads (messages_at room s.offset (records_left s)) → 0 < room
-  has_room room m is ok = ⊎_elim (λ h. absurd (subst Reads (no_room room m is (omega arith)) ok)) (λ h. h) (cases_lt room 1)
-
-pub counted_first : (before : ℕ) (m : Message) (r : Result (List Message) Refusal) → counted before (with_first m r) ≡ counted (before + 1) r
-counted_first before m (Ok ms) = let more : before + suc (length ms) ≡ before + 1 + length ms = omega arith in ap Ok more
-counted_first before m (Err refusal) = refl
+pub taken_refused : (places : ℕ) (r : Result (Option (ℕ × Message)) MessageFault) (fault : MessageFault) (rest : ℕ → Result (List Message) Refusal) → r ≡ Err fault → Err (message_refusal fault) ≡ taken places r rest
+taken_refused places r fault rest is = sym (ap (λ r. taken places r rest) is)
 
 pub reading_large : (file : List ℕ) (places : ℕ) → 32768 < length file → reading file places ≡ Err (refused 4 32768 ALayer.File)
 unfolding reading
@@ -137,5 +105,5 @@ reading_small file places h = cond-false _ _ _ (le-ltb 32768 (length file) h)
 
 -- a count that is refused is a reading that is refused
 pub filled_refused : (table : List Message) (r : Result (List Message) Refusal) (refusal : Refusal) → Err refusal ≡ counted 0 r → filled table r ≡ table
-filled_refused table (Ok ms) refusal e = let z : ◌≡◌ {A = ℕ} 0 1 = cc in absurd (omega arith)
+filled_refused table (Ok ms) refusal e = cc
 filled_refused table (Err refusal') refusal e = refl

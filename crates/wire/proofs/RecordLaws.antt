@@ -1,5 +1,6 @@
 -- The record layer, case by case.
-use Rattle.std.proofs.Common.{◌≡◌, ℕ, ◌<◌, ◌≤◌, ◌⊎◌, List, length, Some, None, Ok, Err, arith}
+use Rattle.std.proofs.Common.{◌≡◌, ℕ, suc, ◌+◌, ◌*◌, ◌/◌, ◌<◌, ◌≤◌, ◌⊎◌, List, [], ◌∷◌, length, get_or, Some, None, Ok, Err, sym, subst, arith}
+use Rattle.std.specs.Simd.{first_chunks}
 use Rattle.std.proofs.lemmas.Bool.Decides.{nat_tests}
 use Rattle.wire.specs.declared.fault.Layer.TheVariants as ALayer
 use Rattle.wire.specs.Faults.{refused}
@@ -27,3 +28,15 @@ module _ (offset : ℕ) (bytes : List ℕ) where
     pub record_bad_kind : (record_kind bytes ≡ 1 → ⊥) → (record_kind bytes ≡ 2 → ⊥) → Err (refused 2 offset ALayer.Record) ≡ record_at offset bytes
     unfolding record_at
     record_bad_kind one two = grind (arith, nat_tests)
+
+-- the two numbers that a record begins with, taken as pairs of bytes
+pub record Begins (pairs : List (List ℕ)) (bytes : List ℕ) : Type 0 where
+  pub length : get_or (get_or pairs 0 []) 0 0 + get_or (get_or pairs 0 []) 1 0 * 256 ≡ record_length bytes
+  pub kind : get_or (get_or pairs 1 []) 0 0 + get_or (get_or pairs 1 []) 1 0 * 256 ≡ record_kind bytes
+
+pairs_begin : (n : ℕ) (bytes : List ℕ) → 2 ≤ n → 4 ≤ length bytes → Begins (first_chunks 2 n bytes) bytes
+pairs_begin (suc (suc n)) (a ∷ b ∷ c ∷ d ∷ bytes) h k = record { length = omega arith; kind = omega arith }
+pairs_begin _ _ h k = absurd (omega arith)
+
+pub begins : (pairs : List (List ℕ)) (bytes : List ℕ) → pairs ≡ first_chunks 2 (length bytes / 2) bytes → 4 ≤ length bytes → Begins pairs bytes
+begins pairs bytes e h = subst (λ ps. Begins ps bytes) (sym e) (pairs_begin (length bytes / 2) bytes (omega arith) h)

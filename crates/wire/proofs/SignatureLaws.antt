@@ -1,32 +1,43 @@
 -- The signatures of a body, one by one.
-use Rattle.std.proofs.Common.{◌≡◌, ℕ, zero, suc, ◌+◌, ◌-◌, ◌*◌, ◌<◌, List, [], ◌∷◌, ◌++◌, length, get_or, take, drop, set, replicate, sym, refl, ap, ◌∙◌, append_assoc, add-zero, add-one, arith}
-use Rattle.std.proofs.lemmas.List.{drop-drop, get_or-drop, set_at}
+use Rattle.std.proofs.Common.{◌≡◌, ℕ, zero, suc, ◌-◌, ◌≤◌, List, [], ◌∷◌, ◌++◌, length, get_or, take, drop, map, replicate, sym, refl, ap, ◌∙◌, arith}
+use Rattle.std.specs.Array.{IsFromFnResult}
+use Rattle.std.specs.Simd.{first_chunks}
+use Rattle.std.proofs.lemmas.List.{ext_get_or, length-append, length-replicate, take-take}
+use denote.Param.Members.{Mut, Called}
 use Rattle.little_endian.specs.Bytes.{number}
-use Rattle.wire.specs.Reading.{signature_from, signatures_from, blank}
+use Rattle.little_endian.proofs.ArrayLaws.{made_from}
+use Rattle.wire.specs.declared.message.Signature.{Signature}
+use Rattle.wire.specs.Reading.{blank, signature_from, signatures_from}
 
 pub length-signatures : (k : ℕ) (bytes : List ℕ) → length (signatures_from k bytes) ≡ k
 length-signatures zero bytes = refl
 length-signatures (suc k) bytes = ap suc (length-signatures k (drop 9 bytes))
 
-signatures_push : (k : ℕ) (bytes : List ℕ) → signatures_from (suc k) bytes ≡ signatures_from k bytes ++ signature_from (drop (9 * k) bytes) ∷ []
-signatures_push zero bytes = refl
-signatures_push (suc k) bytes =
-    ap (λ ss. signature_from bytes ∷ ss) (signatures_push k (drop 9 bytes) ∙ ap (λ bs. signatures_from k (drop 9 bytes) ++ signature_from bs ∷ []) (drop-drop (9 * k) 9 bytes ∙ ap (λ n. drop n bytes) (omega arith)))
+-- a signature takes nine bytes
+signature_of_nine : (bytes : List ℕ) → signature_from bytes ≡ signature_from (take 9 bytes)
+signature_of_nine [] = refl
+signature_of_nine (b ∷ bytes) = λ i. record { signer = b; tag = number (sym (take-take 8 8 bytes (omega arith)) i) }
 
-blank_first : (n : ℕ) → 0 < n → replicate n blank ≡ blank ∷ replicate (n - 1) blank
-blank_first zero h = absurd (omega arith)
-blank_first (suc n) h = ap (λ k. blank ∷ replicate k blank) (omega arith)
+pub signatures_of_chunks : (k : ℕ) (bytes : List ℕ) → signatures_from k bytes ≡ map signature_from (first_chunks 9 k bytes)
+signatures_of_chunks zero bytes = refl
+signatures_of_chunks (suc k) bytes = λ i. signature_of_nine bytes i ∷ signatures_of_chunks k (drop 9 bytes) i
 
--- one more signature over the first blank
-pub signatures_more : (i : ℕ) (bytes : List ℕ) → i < 16 → set (signatures_from i bytes ++ replicate (16 - i) blank) i (signature_from (drop (9 * i) bytes)) ≡ signatures_from (i + 1) bytes ++ replicate (16 - (i + 1)) blank
-signatures_more i bytes h =
-    let s = signature_from (drop (9 * i) bytes) in
-    let ends : replicate (16 - i) blank ≡ blank ∷ replicate (16 - (i + 1)) blank = blank_first (16 - i) (omega arith) ∙ ap (λ n. blank ∷ replicate n blank) (omega arith) in
-    ap (λ bs. set (signatures_from i bytes ++ bs) i s) ends ∙ set_at (signatures_from i bytes) blank _ s i (length-signatures i bytes)
-    ∙ sym (append_assoc (signatures_from i bytes) (s ∷ []) (replicate (16 - (i + 1)) blank)) ∙ ap (λ ss. ss ++ replicate (16 - (i + 1)) blank) (sym (signatures_push i bytes) ∙ ap (λ n. signatures_from n bytes) (sym (add-one i)))
+blanks : (n i : ℕ) → get_or (replicate n blank) i blank ≡ blank
+blanks zero i = refl
+blanks (suc n) zero = refl
+blanks (suc n) (suc i) = blanks n i
 
-pub signature_at : (bytes : List ℕ) (at tag : ℕ) → tag ≡ number (take 8 (drop (at + 1) bytes)) → record { signer = get_or bytes at 0; tag = tag } ≡ signature_from (drop at bytes)
-signature_at bytes at tag e =
-    let named : get_or bytes at 0 ≡ get_or (drop at bytes) 0 0 = sym (get_or-drop at bytes 0 0 ∙ ap (λ n. get_or bytes n 0) (add-zero at)) in
-    let tagged : tag ≡ number (take 8 (drop 1 (drop at bytes))) = e ∙ ap (λ bs. number (take 8 bs)) (sym (drop-drop 1 at bytes)) in
-    λ i. record { signer = named i; tag = tagged i }
+-- past the end there is a blank, whether it stands there or not
+padded : (ss : List Signature) (n i : ℕ) → get_or (ss ++ replicate n blank) i blank ≡ get_or ss i blank
+padded [] n i = blanks n i
+padded (s ∷ ss) n zero = refl
+padded (s ∷ ss) n (suc i) = padded ss n i
+
+-- the signatures that are made from chunks, one at each place, are those of the bytes, and blanks after them
+module _ {F : Type 0} (g : Mut F (ℕ × Unit {0}) Signature) (Keeps : F → Type 0) (f : F) (made : List Signature) (k : ℕ) (bytes : List ℕ) where
+  pub signatures_made : k ≤ 16 → Keeps f → IsFromFnResult g f made 16 → ((f : F) (i : ℕ) (y : Signature) (q : F) → Keeps f → Called g f (i, tt) y q → (y ≡ get_or (map signature_from (first_chunks 9 k bytes)) i blank) × Keeps q) → made ≡ signatures_from k bytes ++ replicate (16 - k) blank
+  signatures_made few h r each =
+      let size : 16 ≡ length (signatures_from k bytes ++ replicate (16 - k) blank) = simp (length-append, length-replicate) (omega (arith, length-signatures k bytes)) in
+      ext_get_or blank made _ (r.long ∙ size) (λ i lt.
+      made_from g Keeps _ each 16 0 i f made blank h r.each (omega arith) (omega (arith, r.long))
+      ∙ ap (λ ss. get_or ss i blank) (sym (signatures_of_chunks k bytes)) ∙ sym (padded (signatures_from k bytes) (16 - k) i))

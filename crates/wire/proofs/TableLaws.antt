@@ -1,11 +1,12 @@
 -- What a table holds while messages are put into it.
-use Rattle.std.proofs.Common.{◌≡◌, ℕ, zero, suc, ◌+◌, ◌-◌, ◌<◌, ◌≤◌, eqb, List, ◌++◌, length, drop, set, Some, None, Ok, Err, Option, Result, sym, refl, ap, ◌∙◌, zero-add, add-one, arith}
+use Rattle.std.proofs.Common.{◌≡◌, ℕ, zero, suc, ◌-◌, ◌<◌, ◌≤◌, eqb, List, ◌++◌, length, drop, Some, None, Ok, Err, Option, Result, refl, ap, ◌∙◌, zero-add, arith}
 use Rattle.std.proofs.lemmas.List.Edits.{sets, sets-eq}
+use Rattle.std.proofs.lemmas.List.{nil_from_length}
 use Rattle.std.proofs.lemmas.Bool.{cond_both, eqb-false}
 use Rattle.wire.specs.declared.fault.Refusal.{Refusal}
 use Rattle.wire.specs.declared.message.Message.{Message}
 use Rattle.wire.specs.Format.{Item, message, comment}
-use Rattle.wire.specs.Reading.{entry_at, onward, messages_within, with_first, filled, Reads}
+use Rattle.wire.specs.Reading.{entry_at, onward, messages_within, with_first, filled}
 
 -- the messages put one after the other from place n on
 abbrev pub laid : List Message → ℕ → Result (List Message) Refusal → List Message
@@ -17,13 +18,14 @@ abbrev pub AtMost : ℕ → Result (List Message) Refusal → Type 0
 AtMost n (Ok ms) = length ms ≤ n
 AtMost n (Err refusal) = Unit {0}
 
-pub laid_first : (table : List Message) (n : ℕ) (m : Message) (r : Result (List Message) Refusal) → Reads (with_first m r) → laid table n (with_first m r) ≡ laid (set table n m) (n + 1) r
-laid_first table n m (Ok ms) ok = ap (λ k. sets (set table n m) k ms) (sym (add-one n))
-laid_first table n m (Err refusal) ok = absurd ok
-
 pub laid_all : (table : List Message) (r : Result (List Message) Refusal) → AtMost (length table) r → laid table 0 r ≡ filled table r
 laid_all table (Ok ms) h = sets-eq ms table 0 (omega arith) ∙ ap (λ n. ms ++ drop n table) (zero-add (length ms))
 laid_all table (Err refusal) h = refl
+
+-- no message more than there is room for
+pub laid_full : (table : List Message) (n : ℕ) (r : Result (List Message) Refusal) → AtMost 0 r → laid table n r ≡ table
+laid_full table n (Ok ms) h = ap (sets table n) (nil_from_length ms (omega arith))
+laid_full table n (Err refusal) h = refl
 
 within_more : (n : ℕ) (m : Message) (r : Result (List Message) Refusal) → 0 < n → AtMost (n - 1) r → AtMost n (with_first m r)
 within_more n m (Ok ms) some h = omega arith
@@ -40,10 +42,6 @@ pub few : (turns room offset : ℕ) (bytes : List ℕ) → AtMost room (messages
 unfolding messages_within
 few zero room offset bytes = omega arith
 few (suc turns) room offset bytes = few_onward room offset (entry_at offset bytes) _ (λ n. few turns n _ _)
-
-pub reads_rest : (m : Message) (r : Result (List Message) Refusal) → Reads (with_first m r) → Reads r
-reads_rest m (Ok ms) ok = ok
-reads_rest m (Err refusal) ok = ok
 
 pub at_most_more : (n n' : ℕ) (r : Result (List Message) Refusal) → n ≤ n' → AtMost n r → AtMost n' r
 at_most_more n n' (Ok ms) le h = omega arith

@@ -70,16 +70,13 @@ message_ends places offset m items rest (Ok ms) (none, holds) = (none, ap (λ ms
 message_ends places offset m items rest (Err refusal) (at, cause) =
     (at ∙ omega (arith, length-append (message_bytes m) (file_bytes items)), ⊎_elim inl (λ full. let (m', later, sized, begins, all) = full.1 in inr (full.0, (m', later, sized, begins, omega arith))) cause)
 
-contradiction : {X : Type 0} {a : Option (Item Message)} {refusal : Refusal} → ◌≡◌ {A = Result (Option (Item Message)) Refusal} (Ok a) (Err refusal) → X
-contradiction e = let z : ◌≡◌ {A = ℕ} 0 1 = cc in absurd (omega arith)
-
 -- what is refused is no message and no comment
 unreadable : (offset : ℕ) (bytes : List ℕ) (refusal : Refusal) → 0 < length bytes → entry_at offset bytes ≡ Err refusal → Unreadable bytes
 unreadable offset bytes refusal some e = (some, no_item)
   where
     no_item : (item : Item Message) (later : List ℕ) → Writable item → bytes ≡ item_bytes item ++ later → ⊥
-    no_item (message m) later w is = contradiction (sym (read_message offset m later) ∙ sym (ap (entry_at offset) is) ∙ e)
-    no_item (comment text) later w is = contradiction (sym (read_comment offset text later w) ∙ sym (ap (entry_at offset) is) ∙ e)
+    no_item (message m) later w is = cc (read_message offset m later)
+    no_item (comment text) later w is = cc (read_comment offset text later w)
 
 -- the record layer's refusal is 1 or 2 at the record's offset, and there are bytes left
 abbrev Blames : ℕ → List ℕ → Result (Option (Item (List ℕ))) Refusal → Type 0
@@ -159,19 +156,19 @@ written_is_read file places items w is small few = reading_small file places sma
 
 count_is : (r : Result ℕ FileFault) (n : ℕ) → file_answer r ≡ Ok n → r ≡ Ok n
 count_is (Ok m) n e = cc
-count_is (Err fault) n e = let z : ◌≡◌ {A = ℕ} 0 1 = cc in absurd (omega arith)
+count_is (Err fault) n e = cc
 
 counted_is : (r : Result (List Message) Refusal) (n : ℕ) → counted 0 r ≡ Ok n → (ms : List Message) × (r ≡ Ok ms) × (n ≡ length ms)
 counted_is (Ok ms) n e = (ms, refl, grind arith)
-counted_is (Err refusal) n e = let z : ◌≡◌ {A = ℕ} 0 1 = cc in absurd (omega arith)
+counted_is (Err refusal) n e = cc
 
 counted_refused : (r : Result (List Message) Refusal) (refusal : Refusal) → counted 0 r ≡ Err refusal → r ≡ Err refusal
-counted_refused (Ok ms) refusal e = let z : ◌≡◌ {A = ℕ} 0 1 = cc in absurd (omega arith)
+counted_refused (Ok ms) refusal e = cc
 counted_refused (Err refusal') refusal e = cc
 
 -- a file that is read is not too large
 small_file : (file : List ℕ) (places : ℕ) (ms : List Message) → reading file places ≡ Ok ms → length file ≤ 32768
-small_file file places ms got = ⊎_elim (λ large. let e = sym (reading_large file places large) ∙ got in let z : ◌≡◌ {A = ℕ} 0 1 = cc in absurd (omega arith)) (λ small. small) (cases_lt 32768 (length file))
+small_file file places ms got = ⊎_elim (λ large. let e = sym (reading_large file places large) ∙ got in cc) (λ small. small) (cases_lt 32768 (length file))
 
 -- the laws of a call of the reader, from what it answers and what it leaves in the table
 module _ (file : List ℕ) (before after : List Message) (answer : Result ℕ FileFault) (told : file_answer answer ≡ counted 0 (reading file (length before))) (left : after ≡ filled before (reading file (length before))) where
@@ -196,17 +193,20 @@ module _ (file : List ℕ) (before after : List Message) (answer : Result ℕ Fi
       let c = subst (Cut (room (length before)) 0 file) got (cut_file file (length before) o small) in
       (c.items, c.rest, c.writable, c.split, c.ends.0 ∙ zero-add _, c.ends.1)
 
--- all three of them
-pub record Lawful (file : List ℕ) (before after : List Message) (answer : Result ℕ FileFault) : Type 0 where
-  pub written : WrittenIsRead file (length before) answer after
-  pub read : ReadIsWritten file answer after
-  pub first : FirstFault file (length before) answer
-
-pub lawful : (file : List ℕ) (before after : List Message) (answer : Result ℕ FileFault) → file_answer answer ≡ counted 0 (reading file (length before)) → after ≡ filled before (reading file (length before)) → Octets file → Lawful file before after answer
-lawful file before after answer told left o = record {
-  written = law_written_is_read file before after answer told left;
-  read = law_read_is_written file before after answer told left o;
-  first = law_first_fault file before after answer told left o;
+-- all that the reader promises
+pub lawful : (file : List ℕ) (before after : List Message) (r : Result ℕ FileFault) → file_answer r ≡ counted 0 (reading file (length before)) → after ≡ filled before (reading file (length before)) → Octets file → record {
+  answer : file_answer r ≡ counted 0 (reading file (length before));
+  table : after ≡ filled before (reading file (length before));
+  written_is_read : WrittenIsRead file (length before) r after;
+  read_is_written : ReadIsWritten file r after;
+  first_fault : FirstFault file (length before) r;
+}
+lawful file before after r told left o = record {
+  answer = told;
+  table = left;
+  written_is_read = law_written_is_read file before after r told left;
+  read_is_written = law_read_is_written file before after r told left o;
+  first_fault = law_first_fault file before after r told left o;
 }
 
 written_whole : (m : Message) (buffer : List ℕ) (n : ℕ) → writing m buffer ≡ Ok n → (n ≡ length (message_bytes m)) × (written m buffer ≡ message_bytes m ++ drop (length (message_bytes m)) buffer)
@@ -214,7 +214,7 @@ written_whole m buffer n e = whole (leb (length (message_bytes m)) (length buffe
   where
     whole : (fits : Bool) → cond {A = Result ℕ Shortage} fits (Ok (length (message_bytes m))) (Err (record { number = 5; needed = length (message_bytes m) })) ≡ Ok n → (n ≡ length (message_bytes m)) × (cond fits (message_bytes m ++ drop (length (message_bytes m)) buffer) buffer ≡ message_bytes m ++ drop (length (message_bytes m)) buffer)
     whole true e = (cc, refl)
-    whole false e = let z : ◌≡◌ {A = ℕ} 0 1 = cc in absurd (omega arith)
+    whole false e = cc
 
 -- the law of a call of the writer, from what it answers and what it leaves in the buffer
 pub law_read_back : (m : Message) (before after : List ℕ) (answer : Result ℕ ShortBuffer) → write_answer answer ≡ writing m before → after ≡ written m before → ReadBack m answer after

@@ -17,11 +17,11 @@ length-signature_bytes [] = refl
 length-signature_bytes (s ∷ ss) = simp length-append (omega (arith, length-signature_bytes ss))
 
 -- one signature more
-pub signatures_written : (d d₁ d₂ : List ℕ) (ss : List Signature) (i : ℕ) (z : Signature) → i < length ss → 16 ≤ length d → d₁ ≡ paste d 16 (flat_map signature_bytes (take i ss)) (9 * i) → d₂ ≡ paste d₁ (16 + 9 * i) (signature_bytes (get_or ss i z)) 9 → d₂ ≡ paste d 16 (flat_map signature_bytes (take (i + 1) ss)) (9 * (i + 1))
-signatures_written d d₁ d₂ ss i z h room e₁ e₂ =
+pub signatures_written : (d d₁ d₂ : List ℕ) (ss : List Signature) (i place : ℕ) (z : Signature) → i < length ss → 16 ≤ length d → d₁ ≡ paste d 16 (flat_map signature_bytes (take i ss)) (9 * i) → d₂ ≡ paste d₁ place (signature_bytes (get_or ss i z)) 9 → place ≡ 16 + 9 * i → d₂ ≡ paste d 16 (flat_map signature_bytes (take (i + 1) ss)) (9 * (i + 1))
+signatures_written d d₁ d₂ ss i place z h room e₁ e₂ next =
     let count : 9 * i ≡ length (flat_map signature_bytes (take i ss)) = ap (λ n. 9 * n) (sym (length-take-le i ss (omega arith))) ∙ length-signature_bytes (take i ss) in
     let more : 9 * i + 9 ≡ 9 * (i + 1) = omega arith in
-    wrote_more d d₁ d₂ 16 (9 * i) (16 + 9 * i) 9 _ _ e₁ e₂ refl count refl room
+    wrote_more d d₁ d₂ 16 (9 * i) place 9 _ _ e₁ e₂ next count refl room
     ∙ (λ j. paste d 16 ((flat_map_more signature_bytes [] (take i ss) (get_or ss i z) ∙ ap (flat_map signature_bytes) (sym (take_more ss i z h))) j) (more j))
 
 pub length-message_bytes : (m : Message) → length (message_bytes m) ≡ 16 + 9 * length (chain m)
@@ -34,14 +34,16 @@ laid_out m cs = little 2 (16 + 9 * length cs) ++ (1 ∷ 0 ∷ m.round ∷ m.send
 laid_out_is : (m : Message) (cs : List Signature) → cs ≡ chain m → laid_out m cs ≡ message_bytes m
 laid_out_is m cs is = ap (laid_out m) is ∙ ap (λ n. little 2 n ++ (little 2 1 ++ body_bytes m)) (omega (arith, length-signature_bytes (chain m)))
 
--- the four writes of a message
-pub message_put : (m : Message) (cs : List Signature) (d d₁ d₂ d₃ d₄ : List ℕ) → cs ≡ chain m → 16 ≤ length d → d₁ ≡ paste d 0 (little 2 (16 + 9 * length cs)) 2 → d₂ ≡ paste d₁ 2 (1 ∷ 0 ∷ m.round ∷ m.sender ∷ m.receiver ∷ length cs ∷ []) 6 → d₃ ≡ paste d₂ 8 (little 8 m.value) 8 → d₄ ≡ paste d₃ 16 (flat_map signature_bytes cs) (9 * length cs) → d₄ ≡ message_bytes m ++ drop (length (message_bytes m)) d
-message_put m cs d d₁ d₂ d₃ d₄ is room e₁ e₂ e₃ e₄ =
+-- the five writes of a message
+pub message_put : (m : Message) (cs : List Signature) (d d₁ d₂ d₃ d₄ d₅ : List ℕ) → cs ≡ chain m → 16 ≤ length d → d₁ ≡ paste d 0 (little 2 (16 + 9 * length cs)) 2 → d₂ ≡ paste d₁ 2 (little 2 1) 2 → d₃ ≡ paste d₂ 4 (m.round ∷ m.sender ∷ m.receiver ∷ length cs ∷ []) 4 → d₄ ≡ paste d₃ 8 (little 8 m.value) 8 → d₅ ≡ paste d₄ 16 (flat_map signature_bytes cs) (9 * length cs) → d₅ ≡ message_bytes m ++ drop (length (message_bytes m)) d
+message_put m cs d d₁ d₂ d₃ d₄ d₅ is room e₁ e₂ e₃ e₄ e₅ =
     let first = little 2 (16 + 9 * length cs) in
-    let second = 1 ∷ 0 ∷ m.round ∷ m.sender ∷ m.receiver ∷ length cs ∷ [] in
-    let third = little 8 m.value in
-    let two = wrote_more d d₁ d₂ 0 2 2 6 first second e₁ e₂ refl refl refl (omega arith) in
-    let three = wrote_more d d₂ d₃ 0 8 8 8 (first ++ second) third two e₃ refl refl refl (omega arith) in
+    let second = little 2 1 in
+    let third = m.round ∷ m.sender ∷ m.receiver ∷ length cs ∷ [] in
+    let fourth = little 8 m.value in
+    let two = wrote_more d d₁ d₂ 0 2 2 2 first second e₁ e₂ refl refl refl (omega arith) in
+    let three = wrote_more d d₂ d₃ 0 4 4 4 (first ++ second) third two e₃ refl refl refl (omega arith) in
+    let four = wrote_more d d₃ d₄ 0 8 8 8 (first ++ second ++ third) fourth three e₄ refl refl refl (omega arith) in
     let size : 16 + 9 * length cs ≡ length (laid_out m cs) = omega (arith, length-signature_bytes cs) in
-    wrote_more d d₃ d₄ 0 16 16 (9 * length cs) (first ++ second ++ third) (flat_map signature_bytes cs) three e₄ refl refl (length-signature_bytes cs) (omega arith)
+    wrote_more d d₄ d₅ 0 16 16 (9 * length cs) (first ++ second ++ third ++ fourth) (flat_map signature_bytes cs) four e₅ refl refl (length-signature_bytes cs) (omega arith)
     ∙ paste_all d 0 (laid_out m cs) (16 + 9 * length cs) size ∙ ap (λ n. laid_out m cs ++ drop n d) (zero-add (16 + 9 * length cs) ∙ size) ∙ ap (λ bs. bs ++ drop (length bs) d) (laid_out_is m cs is)

@@ -1,6 +1,7 @@
 -- What each fault says: its number, the offset of the record at fault, and the layer that found it.
 -- A fault that was found below says what it said there.
-use Rattle.std.specs.Prelude.{ℕ}
+use Rattle.std.specs.Prelude.{ℕ, ◌≤◌}
+use Rattle.std.proofs.Common.{arith}
 use Rattle.wire.specs.declared.fault.Layer.{Layer}
 use Rattle.wire.specs.declared.fault.Layer.TheVariants as ALayer
 use Rattle.wire.specs.declared.fault.Refusal.{Refusal}
@@ -25,3 +26,16 @@ message_refusal (AtMessage.Length offset) = refused 3 offset ALayer.Message
 abbrev pub file_refusal : FileFault → Refusal
 file_refusal (AtFile.Message fault) = message_refusal fault
 file_refusal (AtFile.Capacity offset) = refused 4 offset ALayer.File
+
+-- the numbers are 1 to 15
+pub record_number : (fault : RecordFault) → (1 ≤ (record_refusal fault).number) × ((record_refusal fault).number ≤ 15)
+record_number (AtRecord.Length offset) = (omega arith, omega arith)
+record_number (AtRecord.Kind offset) = (omega arith, omega arith)
+
+pub message_number : (fault : MessageFault) → (1 ≤ (message_refusal fault).number) × ((message_refusal fault).number ≤ 15)
+message_number (AtMessage.Record fault) = record_number fault
+message_number (AtMessage.Length offset) = (omega arith, omega arith)
+
+pub file_number : (fault : FileFault) → (1 ≤ (file_refusal fault).number) × ((file_refusal fault).number ≤ 15)
+file_number (AtFile.Message fault) = message_number fault
+file_number (AtFile.Capacity offset) = (omega arith, omega arith)

@@ -1,4 +1,6 @@
 pub mod Faults
+pub mod Kinds
+pub mod Texts
 pub mod Format
 pub mod Reading
 pub mod Writing

@@ -1,5 +1,6 @@
 -- How a message file is read: record by record, in three layers. `bytes` is what is left of the file at an offset.
-use Rattle.std.specs.Prelude.{ℕ, zero, suc, ◌+◌, ◌-◌, ◌*◌, min, Bool, cond, ◌&&◌, ◌||◌, List, [], ◌∷◌, ◌++◌, length, take, drop, replicate, Some, None, Ok, Err, Option, Result, ◌==◌, nat_le, nat_lt, slice_index}
+use Rattle.std.specs.Prelude.{ℕ, zero, suc, ◌+◌, ◌-◌, ◌*◌, min, Bool, if◌then◌else◌, ◌&&◌, ◌||◌, List, [], ◌∷◌, ◌++◌, length, take, drop, replicate, Some, None, Ok, Err, Option, Result, ◌==◌, nat_le, nat_lt, slice_index}
+use Rattle.std.specs.Borrow.{Bor}
 use Rattle.wire.specs.declared.fault.Layer.TheVariants as ALayer
 use Rattle.wire.specs.declared.fault.Refusal.{Refusal}
 use Rattle.wire.specs.declared.fault.RecordFault.{RecordFault}
@@ -7,10 +8,8 @@ use Rattle.wire.specs.declared.fault.MessageFault.{MessageFault}
 use Rattle.wire.specs.declared.fault.FileFault.{FileFault}
 use Rattle.wire.specs.declared.message.Signature.{Signature}
 use Rattle.wire.specs.declared.message.Message.{Message}
-use Rattle.wire.specs.declared.record.Record.{Record}
-use Rattle.wire.specs.declared.record.Record.TheVariants as ARecord
-use Rattle.wire.specs.declared.entry.Entry.{Entry}
-use Rattle.wire.specs.declared.entry.Entry.TheVariants as AnEntry
+use Rattle.wire.specs.declared.item.Item.{Item as Held}
+use Rattle.wire.specs.declared.item.Item.TheVariants as AnItem
 use Rattle.wire.specs.declared.records.Records.{Records}
 use Rattle.little_endian.specs.Bytes.{number}
 use Rattle.wire.specs.Faults.{refused, record_refusal, message_refusal, file_refusal}
@@ -34,20 +33,25 @@ bad_length bytes = nat_lt (length bytes) 4 || (nat_lt (record_length bytes) 4 ||
 
 unfoldable pub record_at : ℕ → List ℕ → Result (Option (Item (List ℕ))) Refusal
 record_at offset bytes =
-    cond (length bytes == 0) (Ok None)
-    (cond (bad_length bytes) (Err (refused 1 offset ALayer.Record))
-    (cond (record_kind bytes == 1) (Ok (Some (message (record_body bytes))))
-    (cond (record_kind bytes == 2) (Ok (Some (comment (record_body bytes)))) (Err (refused 2 offset ALayer.Record)))))
+    if length bytes == 0 then Ok None
+    else if bad_length bytes then Err (refused 1 offset ALayer.Record)
+    else if record_kind bytes == 1 then Ok (Some (message (record_body bytes)))
+    else if record_kind bytes == 2 then Ok (Some (comment (record_body bytes)))
+    else Err (refused 2 offset ALayer.Record)
 
--- what a record of the code holds, and what the record layer's answer says
-abbrev pub content : Record → Item (List ℕ)
-content (ARecord.Message body) = message body.now
-content (ARecord.Comment text) = comment text.now
+-- what an item of the code holds, where f says it of the message
+abbrev pub content : {M N : Type 0} → (M → N) → Held M → Item N
+content f (AnItem.Message m) = message (f m)
+content f (AnItem.Comment text) = comment text.now
 
-abbrev pub record_answer : Result (Option Record) RecordFault → Result (Option (Item (List ℕ))) Refusal
-record_answer (Ok None) = Ok None
-record_answer (Ok (Some r)) = Ok (Some (content r))
-record_answer (Err fault) = Err (record_refusal fault)
+-- what the answer of a reader says, where `told` says it of a fault
+abbrev pub item_answer : {M N F : Type 0} → (M → N) → (F → Refusal) → Result (Option (Held M)) F → Result (Option (Item N)) Refusal
+item_answer f told (Ok None) = Ok None
+item_answer f told (Ok (Some item)) = Ok (Some (content f item))
+item_answer f told (Err fault) = Err (told fault)
+
+abbrev pub record_answer : Result (Option (Held (Bor (List ℕ)))) RecordFault → Result (Option (Item (List ℕ))) Refusal
+record_answer = item_answer (λ body. body.now) record_refusal
 
 -- THE MESSAGE LAYER
 
@@ -79,21 +83,15 @@ well_formed body = nat_le 16 (4 + length body) && (nat_le (slice_index body 3) 1
 -- what the message layer makes of the record layer's answer
 abbrev pub parsed : ℕ → Result (Option (Item (List ℕ))) Refusal → Result (Option (Item Message)) Refusal
 parsed offset (Ok None) = Ok None
-parsed offset (Ok (Some (message body))) = cond (well_formed body) (Ok (Some (message (message_from body)))) (Err (refused 3 offset ALayer.Message))
+parsed offset (Ok (Some (message body))) = if well_formed body then Ok (Some (message (message_from body))) else Err (refused 3 offset ALayer.Message)
 parsed offset (Ok (Some (comment text))) = Ok (Some (comment text))
 parsed offset (Err refusal) = Err refusal
 
 abbrev pub entry_at : ℕ → List ℕ → Result (Option (Item Message)) Refusal
 entry_at offset bytes = parsed offset (record_at offset bytes)
 
-abbrev pub entry_content : Entry → Item Message
-entry_content (AnEntry.Message m) = message m
-entry_content (AnEntry.Comment text) = comment text.now
-
-abbrev pub entry_answer : Result (Option Entry) MessageFault → Result (Option (Item Message)) Refusal
-entry_answer (Ok None) = Ok None
-entry_answer (Ok (Some e)) = Ok (Some (entry_content e))
-entry_answer (Err fault) = Err (message_refusal fault)
+abbrev pub entry_answer : Result (Option (Held Message)) MessageFault → Result (Option (Item Message)) Refusal
+entry_answer = item_answer (λ m. m) message_refusal
 
 -- where a reader stands after an answer: past the record, if one was read
 abbrev pub passed : {X R : Type 0} → ℕ → List ℕ → Result (Option X) R → ℕ
@@ -114,9 +112,15 @@ with_first m (Err refusal) = Err refusal
 -- one entry, and then the rest of the file; a message for which no place is left is refused
 abbrev pub onward : ℕ → ℕ → Result (Option (Item Message)) Refusal → (ℕ → Result (List Message) Refusal) → Result (List Message) Refusal
 onward places offset (Ok None) rest = Ok []
-onward places offset (Ok (Some (message m))) rest = cond (places == 0) (Err (refused 4 offset ALayer.File)) (with_first m (rest (places - 1)))
+onward places offset (Ok (Some (message m))) rest = if places == 0 then Err (refused 4 offset ALayer.File) else with_first m (rest (places - 1))
 onward places offset (Ok (Some (comment text))) rest = rest places
 onward places offset (Err refusal) rest = Err refusal
+
+-- what becomes of the messages that are left once the next was taken, with the offset of its record
+abbrev pub taken : ℕ → Result (Option (ℕ × Message)) MessageFault → (ℕ → Result (List Message) Refusal) → Result (List Message) Refusal
+taken places (Ok None) rest = Ok []
+taken places (Ok (Some (offset, m))) rest = onward places offset (Ok (Some (message m))) rest
+taken places (Err fault) rest = Err (message_refusal fault)
 
 -- the messages of what is left, of at most `turns` records
 unfoldable pub messages_within : ℕ → ℕ → ℕ → List ℕ → Result (List Message) Refusal
@@ -134,7 +138,7 @@ room places = min places 128
 
 -- the messages of a file, for a table of so many places
 unfoldable pub reading : List ℕ → ℕ → Result (List Message) Refusal
-reading file places = cond (nat_lt 32768 (length file)) (Err (refused 4 32768 ALayer.File)) (messages_at (room places) 0 file)
+reading file places = if nat_lt 32768 (length file) then Err (refused 4 32768 ALayer.File) else messages_at (room places) 0 file
 
 -- what the file layer's answer says: how many messages were read
 abbrev pub file_answer : Result ℕ FileFault → Result ℕ Refusal
@@ -144,11 +148,6 @@ file_answer (Err fault) = Err (file_refusal fault)
 abbrev pub counted : ℕ → Result (List Message) Refusal → Result ℕ Refusal
 counted before (Ok ms) = Ok (before + length ms)
 counted before (Err refusal) = Err refusal
-
--- nothing was refused
-abbrev pub Reads : Result (List Message) Refusal → Type 0
-Reads (Ok ms) = Unit {0}
-Reads (Err refusal) = ⊥
 
 -- the table afterwards: the messages first, the later places as they were; all of it as it was on a refusal
 abbrev pub filled : List Message → Result (List Message) Refusal → List Message

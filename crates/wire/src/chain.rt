@@ -9,6 +9,6 @@ impl Message {
         ensures { result.now ≡ chain self.now }
     {
         let count = usize::from(self.count).min(MAX_SIGNATURES);
-        &self.signatures[0..count]
+        &self.signatures[..count]
     }
 }

@@ -11,6 +11,7 @@ pub enum Layer {
 }
 
 // A fault as it is told: its number, the offset of the record at fault, and the layer that found it.
+// The number is no enum: the causes are the variants of the faults below, which it would say twice.
 #[derive(Clone, Copy, PartialEq, Eq, Debug)]
 pub struct Refusal {
     pub number: u8,
@@ -18,7 +19,7 @@ pub struct Refusal {
     pub layer: Layer,
 }
 
-// What the record layer refuses.
+// What the record layer refuses. Each variant has an offset of its own: one beside the fault would stand twice where a fault holds another.
 #[derive(Clone, Copy, PartialEq, Eq, Debug)]
 pub enum RecordFault {
     // 1 to 3 bytes are left, or the length is below 4 or passes the end

@@ -1,9 +1,8 @@
-ghost use Rattle.std.specs.Prelude.{◌≡◌, true, length, is_ok};
+ghost use Rattle.std.specs.Prelude.{◌≡◌, length, IsOk};
 ghost use Rattle.wire.specs.Laws.{WrittenIsRead, ReadIsWritten, FirstFault};
-ghost use Rattle.wire.specs.Reading.{messages_at, room, reading, file_answer, counted, filled, Reads};
+ghost use Rattle.wire.specs.Reading.{messages_at, room, reading, file_answer, counted, filled};
 
 use crate::entries::Entries;
-use crate::entry::Entry;
 use crate::fault::FileFault;
 use crate::message::Message;
 
@@ -17,40 +16,37 @@ fn count_messages(file: &[u8], most: usize) -> Result<usize, FileFault>
     ensures { file_answer result ≡ counted 0 (messages_at most 0 file.now) }
 {
     let mut entries = Entries::new(file);
-    let mut count = 0;
-    loop {
-        let offset = entries.offset();
-        let Some(entry) = entries.next()? else {
+    for count in 0..most {
+        if entries.next_message()?.is_none() {
             return Ok(count);
-        };
-        if let Entry::Message(_) = entry {
-            if count == most {
-                return Err(FileFault::Capacity { offset });
-            }
-            count += 1;
         }
+    }
+    // No place is left.
+    match entries.next_message()? {
+        None => Ok(most),
+        Some((offset, _)) => Err(FileFault::Capacity { offset }),
     }
 }
 
 // Puts the messages of a file that has no fault at the table's start.
 fn fill(file: &[u8], table: &mut [Message]) -> Result<(), FileFault>
-    requires { Reads (messages_at (room (length table.old)) 0 file.now) }
-    ensures no_fault { is_ok result ≡ true }
+    requires { IsOk (messages_at (room (length table.old)) 0 file.now) }
+    ensures no_fault { IsOk result }
     ensures table { table.new ≡ filled table.old (messages_at (room (length table.old)) 0 file.now) }
 {
     let mut entries = Entries::new(file);
-    let mut filled = 0;
-    while let Some(entry) = entries.next()? {
-        if let Entry::Message(message) = entry {
-            table[filled] = message;
-            filled += 1;
-        }
+    for place in table.iter_mut() {
+        let Some((_, message)) = entries.next_message()? else {
+            break;
+        };
+        *place = message;
     }
     Ok(())
 }
 
 // Reads the messages of a file into the table's first places, and answers how many there are.
 // The whole file is looked at before the first write, so a refusal leaves the table as it was.
+// The table is the caller's, since memory is fixed.
 pub fn read_messages(file: &[u8], table: &mut [Message]) -> Result<usize, FileFault>
     ensures answer { file_answer result ≡ counted 0 (reading file.now (length table.old)) }
     ensures table { table.new ≡ filled table.old (reading file.now (length table.old)) }

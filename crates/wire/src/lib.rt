@@ -3,23 +3,23 @@
 
 mod chain;
 mod entries;
-mod entry;
 mod fault;
 mod file_layer;
+mod item;
+mod kind;
 mod layout;
 mod message;
+mod message_body;
 mod message_layer;
-mod record;
 mod record_layer;
 mod records;
 mod refusal;
 mod writing;
 
 pub use entries::Entries;
-pub use entry::Entry;
 pub use fault::{FileFault, Layer, MessageFault, RecordFault, Refusal, ShortBuffer};
 pub use file_layer::{MAX_FILE, MAX_MESSAGES, read_messages};
+pub use item::{Entry, Item, Record};
 pub use message::{MAX_SIGNATURES, Message, Signature};
-pub use record::Record;
 pub use records::Records;
 pub use writing::write_message;

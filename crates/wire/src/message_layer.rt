@@ -1,64 +1,12 @@
-ghost use Rattle.std.specs.Prelude.{◌≡◌, ◌+◌, ◌-◌, ◌*◌, ◌≤◌, true, ◌++◌, length, drop, replicate};
-ghost use Rattle.wire.specs.Reading.{blank, signature_from, signatures_from, message_from, well_formed, entry_answer, entry_at, records_left, passed};
+ghost use Rattle.std.specs.Prelude.{◌≡◌, ℕ};
+ghost use Rattle.wire.specs.Reading.{entry_answer, entry_at, records_left, passed, messages_at, taken};
 
 use crate::entries::Entries;
-use crate::entry::Entry;
 use crate::fault::MessageFault;
-use crate::layout::{BODY, SIGNATURE};
-use crate::message::{MAX_SIGNATURES, Message, Signature};
-use crate::record::Record;
+use crate::item::{Entry, Record};
+use crate::message::Message;
+use crate::message_body::MessageBody;
 use crate::records::Records;
-use little_endian::read_u64;
-
-const BLANK: Signature = Signature { signer: 0, tag: 0 };
-
-fn signature_at(bytes: &[u8], at: usize) -> Signature
-    requires { at + 9 ≤ length bytes.now }
-    ensures { result ≡ signature_from (drop at bytes.now) }
-{
-    Signature {
-        signer: bytes[at],
-        tag: read_u64(&bytes[at + 1..]),
-    }
-}
-
-// The signatures of a body, and blanks after them.
-fn signatures_in(body: &[u8], count: usize) -> [Signature; MAX_SIGNATURES]
-    requires few { count ≤ 16 }
-    requires whole { length body.now ≡ 12 + 9 * count }
-    ensures { result ≡ signatures_from count (drop 12 body.now) ++ replicate (16 - count) blank }
-{
-    let mut signatures = [BLANK; MAX_SIGNATURES];
-    for i in 0..count {
-        signatures[i] = signature_at(body, BODY + SIGNATURE * i);
-    }
-    signatures
-}
-
-fn is_well_formed(body: &[u8]) -> bool
-    ensures { result ≡ well_formed body.now }
-{
-    if body.len() < BODY {
-        return false;
-    }
-    let count = usize::from(body[3]);
-    count <= MAX_SIGNATURES && body.len() == BODY + SIGNATURE * count
-}
-
-fn message_in(body: &[u8]) -> Message
-    requires { well_formed body.now ≡ true }
-    ensures { result ≡ message_from body.now }
-{
-    let count = body[3];
-    Message {
-        round: body[0],
-        sender: body[1],
-        receiver: body[2],
-        count,
-        value: read_u64(&body[4..]),
-        signatures: signatures_in(body, usize::from(count)),
-    }
-}
 
 impl<'a> Entries<'a> {
     pub fn new(file: &'a [u8]) -> Self
@@ -88,15 +36,29 @@ impl<'a> Entries<'a> {
             None => return Ok(None),
             Some(Record::Comment(text)) => Entry::Comment(text),
             Some(Record::Message(body)) => {
-                if !is_well_formed(body) {
+                let Some(body) = MessageBody::new(body) else {
                     return Err(MessageFault::Length {
                         offset: self.records.offset,
                     });
-                }
-                Entry::Message(message_in(body))
+                };
+                Entry::Message(body.message())
             }
         };
         self.records = records;
         Ok(Some(entry))
+    }
+
+    // The next message with the offset of its record, past the comments before it.
+    pub(crate) fn next_message(&mut self) -> Result<Option<(usize, Message)>, MessageFault>
+        ensures { (places : ℕ) → messages_at places self.old.records.offset (records_left self.old.records) ≡ taken places result (λ left. messages_at left self.new.records.offset (records_left self.new.records)) }
+    {
+        loop {
+            let offset = self.offset();
+            match self.next()? {
+                None => return Ok(None),
+                Some(Entry::Message(message)) => return Ok(Some((offset, message))),
+                Some(Entry::Comment(_)) => {}
+            }
+        }
     }
 }

@@ -2,8 +2,9 @@ ghost use Rattle.std.specs.Prelude.{◌≡◌};
 ghost use Rattle.wire.specs.Reading.{record_answer, record_at, records_left, passed};
 
 use crate::fault::RecordFault;
+use crate::item::Record;
+use crate::kind::Kind;
 use crate::layout::HEADER;
-use crate::record::Record;
 use crate::records::Records;
 
 impl<'a> Records<'a> {
@@ -32,18 +33,21 @@ impl<'a> Records<'a> {
             return Ok(None);
         }
         let left = &file[offset..];
-        if left.len() < HEADER {
+        let (pairs, _) = left.as_chunks::<2>();
+        let [length, kind, ..] = pairs else {
             return Err(RecordFault::Length { offset });
-        }
-        let length = usize::from(u16::from_le_bytes([left[0], left[1]]));
+        };
+        let length = usize::from(u16::from_le_bytes(*length));
         if length < HEADER || length > left.len() {
             return Err(RecordFault::Length { offset });
         }
         let body = &left[HEADER..length];
-        let record = match u16::from_le_bytes([left[2], left[3]]) {
-            1 => Record::Message(body),
-            2 => Record::Comment(body),
-            _ => return Err(RecordFault::Kind { offset }),
+        let Ok(kind) = Kind::try_from(u16::from_le_bytes(*kind)) else {
+            return Err(RecordFault::Kind { offset });
+        };
+        let record = match kind {
+            Kind::Message => Record::Message(body),
+            Kind::Comment => Record::Comment(body),
         };
         self.offset = offset + length;
         Ok(Some(record))

@@ -1,37 +1,33 @@
-ghost use Rattle.std.specs.Prelude.{◌≡◌};
-ghost use Rattle.wire.specs.Faults.{record_refusal, message_refusal, file_refusal};
-ghost use Rattle.wire.specs.Writing.{shortage};
+ghost use Rattle.std.specs.Prelude.{◌≡◌, Some};
+ghost use Rattle.wire.specs.Faults.{record_refusal, message_refusal, file_refusal, record_number, message_number, file_number};
+ghost use Rattle.wire.specs.Texts.{refusal_text};
+ghost use Rattle.wire.specs.Writing.{shortage, shortage_number};
 
 use crate::fault::{FileFault, Layer, MessageFault, RecordFault, Refusal, ShortBuffer};
+use refusals::Numbered;
+use std::fmt;
 
-impl RecordFault {
-    pub fn refusal(&self) -> Refusal
-        ensures { result ≡ record_refusal self.now }
-    {
-        let layer = Layer::Record;
-        match *self {
-            RecordFault::Length { offset } => Refusal {
-                number: 1,
-                offset,
-                layer,
-            },
-            RecordFault::Kind { offset } => Refusal {
-                number: 2,
-                offset,
-                layer,
-            },
+impl From<RecordFault> for Refusal {
+    ghost from_gives = { λ fault r. r ≡ record_refusal fault };
+
+    fn from(fault: RecordFault) -> Refusal {
+        let (RecordFault::Length { offset } | RecordFault::Kind { offset }) = fault;
+        Refusal {
+            number: fault.number(),
+            offset,
+            layer: Layer::Record,
         }
     }
 }
 
-impl MessageFault {
-    pub fn refusal(&self) -> Refusal
-        ensures { result ≡ message_refusal self.now }
-    {
-        match *self {
-            MessageFault::Record(fault) => fault.refusal(),
+impl From<MessageFault> for Refusal {
+    ghost from_gives = { λ fault r. r ≡ message_refusal fault };
+
+    fn from(fault: MessageFault) -> Refusal {
+        match fault {
+            MessageFault::Record(fault) => fault.into(),
             MessageFault::Length { offset } => Refusal {
-                number: 3,
+                number: fault.number(),
                 offset,
                 layer: Layer::Message,
             },
@@ -39,14 +35,14 @@ impl MessageFault {
     }
 }
 
-impl FileFault {
-    pub fn refusal(&self) -> Refusal
-        ensures { result ≡ file_refusal self.now }
-    {
-        match *self {
-            FileFault::Message(fault) => fault.refusal(),
+impl From<FileFault> for Refusal {
+    ghost from_gives = { λ fault r. r ≡ file_refusal fault };
+
+    fn from(fault: FileFault) -> Refusal {
+        match fault {
+            FileFault::Message(fault) => fault.into(),
             FileFault::Capacity { offset } => Refusal {
-                number: 4,
+                number: fault.number(),
                 offset,
                 layer: Layer::File,
             },
@@ -54,10 +50,68 @@ impl FileFault {
     }
 }
 
-impl ShortBuffer {
-    pub fn number(&self) -> u8
-        ensures { result ≡ (shortage self.now).number }
-    {
+// A refusal is printed as `refused 3 at 0`.
+impl fmt::Display for Refusal {
+    ghost output = { λ r. Some (refusal_text r) };
+
+    fn fmt<W: fmt::Write>(&self, f: &mut fmt::Formatter<W>) -> fmt::Result {
+        write!(f, "refused {} at {}", self.number, self.offset)
+    }
+}
+
+impl Numbered for RecordFault {
+    ghost number = { λ fault. (record_refusal fault).number };
+
+    ghost from_one = { λ fault. (record_number fault).0 };
+
+    ghost to_fifteen = { λ fault. (record_number fault).1 };
+
+    fn number(&self) -> u8 {
+        match self {
+            RecordFault::Length { .. } => 1,
+            RecordFault::Kind { .. } => 2,
+        }
+    }
+}
+
+impl Numbered for MessageFault {
+    ghost number = { λ fault. (message_refusal fault).number };
+
+    ghost from_one = { λ fault. (message_number fault).0 };
+
+    ghost to_fifteen = { λ fault. (message_number fault).1 };
+
+    fn number(&self) -> u8 {
+        match self {
+            MessageFault::Record(fault) => fault.number(),
+            MessageFault::Length { .. } => 3,
+        }
+    }
+}
+
+impl Numbered for FileFault {
+    ghost number = { λ fault. (file_refusal fault).number };
+
+    ghost from_one = { λ fault. (file_number fault).0 };
+
+    ghost to_fifteen = { λ fault. (file_number fault).1 };
+
+    fn number(&self) -> u8 {
+        match self {
+            FileFault::Message(fault) => fault.number(),
+            FileFault::Capacity { .. } => 4,
+        }
+    }
+}
+
+impl Numbered for ShortBuffer {
+    ghost number = { λ short. (shortage short).number };
+
+    ghost from_one = { λ short. (shortage_number short).0 };
+
+    ghost to_fifteen = { λ short. (shortage_number short).1 };
+
+    fn number(&self) -> u8 {
         5
     }
 }

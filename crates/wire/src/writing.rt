@@ -6,37 +6,41 @@ ghost use Rattle.wire.specs.Laws.{ReadBack};
 ghost use Rattle.wire.specs.Writing.{write_answer, writing, written};
 
 use crate::fault::ShortBuffer;
+use crate::kind::Kind;
 use crate::layout::{SIGNATURE, UNSIGNED};
 use crate::message::{Message, Signature};
 
-// Copies bytes to a place of the buffer.
-fn put(buffer: &mut [u8], at: usize, bytes: &[u8])
-    requires { at + length bytes.now ≤ length buffer.old }
-    ensures { buffer.new ≡ paste buffer.old at bytes.now (length bytes.now) }
-{
-    let end = at + bytes.len();
-    buffer[at..end].copy_from_slice(bytes);
+// Puts bytes into a buffer, one after the other.
+#[derive(Drop)]
+struct Writer<'a> {
+    buffer: &'a mut [u8],
+    written: usize,
 }
 
-fn put_signature(buffer: &mut [u8], at: usize, signature: &Signature)
-    requires { at + 9 ≤ length buffer.old }
-    ensures { buffer.new ≡ paste buffer.old at (signature_bytes signature.now) 9 }
-{
-    put(buffer, at, &[signature.signer]);
-    put(buffer, at + 1, &signature.tag.to_le_bytes());
-}
+impl Writer<'_> {
+    fn put(&mut self, bytes: &[u8])
+        requires { self.old.written + length bytes.now ≤ length self.old.buffer.now }
+        ensures buffer { self.new.buffer.now ≡ paste self.old.buffer.now self.old.written bytes.now (length bytes.now) }
+        ensures written { self.new.written ≡ self.old.written + length bytes.now }
+        ensures same_buffer { self.new.buffer.ghost_name ≡ self.old.buffer.ghost_name }
+    {
+        let end = self.written + bytes.len();
+        self.buffer[self.written..end].copy_from_slice(bytes);
+        self.written = end;
+    }
 
-fn put_signatures(buffer: &mut [u8], chain: &[Signature])
-    requires few { length chain.now ≤ 16 }
-    requires room { 16 + 9 * length chain.now ≤ length buffer.old }
-    ensures { buffer.new ≡ paste buffer.old 16 (flat_map signature_bytes chain.now) (9 * length chain.now) }
-{
-    for (i, signature) in chain.iter().enumerate() {
-        put_signature(buffer, UNSIGNED + SIGNATURE * i, signature);
+    fn put_signature(&mut self, signature: &Signature)
+        requires { self.old.written + 9 ≤ length self.old.buffer.now }
+        ensures buffer { self.new.buffer.now ≡ paste self.old.buffer.now self.old.written (signature_bytes signature.now) 9 }
+        ensures written { self.new.written ≡ self.old.written + 9 }
+        ensures same_buffer { self.new.buffer.ghost_name ≡ self.old.buffer.ghost_name }
+    {
+        self.put(&[signature.signer]);
+        self.put(&signature.tag.to_le_bytes());
     }
 }
 
-// Writes one message at the buffer's start, and answers how many bytes it took.
+// Writes one message at the buffer's start, and answers how many bytes it took. The buffer is the caller's, since memory is fixed.
 pub fn write_message(message: &Message, buffer: &mut [u8]) -> Result<usize, ShortBuffer>
     ensures answer { write_answer result ≡ writing message.now buffer.old }
     ensures buffer { buffer.new ≡ written message.now buffer.old }
@@ -47,20 +51,18 @@ pub fn write_message(message: &Message, buffer: &mut [u8]) -> Result<usize, Shor
     if buffer.len() < length {
         return Err(ShortBuffer { needed: length });
     }
-    put(buffer, 0, &(length as u16).to_le_bytes());
-    put(
-        buffer,
-        2,
-        &[
-            1,
-            0,
-            message.round,
-            message.sender,
-            message.receiver,
-            chain.len() as u8,
-        ],
-    );
-    put(buffer, 8, &message.value.to_le_bytes());
-    put_signatures(buffer, chain);
+    let mut writer = Writer { buffer, written: 0 };
+    writer.put(&(length as u16).to_le_bytes());
+    writer.put(&(Kind::Message as u16).to_le_bytes());
+    writer.put(&[
+        message.round,
+        message.sender,
+        message.receiver,
+        chain.len() as u8,
+    ]);
+    writer.put(&message.value.to_le_bytes());
+    for signature in chain {
+        writer.put_signature(signature);
+    }
     Ok(length)
 }

@@ -1,4 +1,4 @@
-use crate::samples::{FILLER, ZERO, put_messages, reads, refuses, same, unchanged};
+use crate::samples::{FILLER, put_messages, reads, refuses, same, unchanged};
 use std::test::Fail;
 use wire::{Layer, MAX_FILE, MAX_MESSAGES, Message};
 
@@ -15,13 +15,13 @@ fn at_most_128_messages(rt: HostRuntime) -> Result<(), Fail> {
     let mut table = [FILLER; 129];
     refuses(&rt, &file, &mut table, 4, 2048, Layer::File)?;
     reads(&rt, &file[0..2048], &mut table, 128)?;
-    for i in 0..128 {
+    for (i, message) in table[0..128].iter().enumerate() {
         same(
             &rt,
-            &table[i],
+            message,
             &Message {
                 round: i as u8,
-                ..ZERO
+                ..Message::default()
             },
         );
     }

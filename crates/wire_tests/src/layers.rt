@@ -1,6 +1,7 @@
-use crate::samples::{ZERO, same, tells};
+use crate::samples::{same, tells};
+use refusals::Numbered;
 use std::test::Fail;
-use wire::{Entries, Entry, Layer, Message, Record, Records};
+use wire::{Entries, Entry, FileFault, Layer, Message, Record, Records, Refusal};
 
 // A comment, a message without its body, a kind that is unknown.
 const FILE: [u8; 14] = [6, 0, 2, 0, 7, 8, 4, 0, 1, 0, 4, 0, 3, 0];
@@ -26,7 +27,10 @@ fn records_one_after_the_other(rt: HostRuntime) -> Result<(), Fail> {
     for _ in 0..2 {
         match records.next() {
             Ok(_) => return Err(Fail::new("a record of kind 3")),
-            Err(fault) => tells(&rt, fault.refusal(), 2, 10, Layer::Record),
+            Err(fault) => {
+                assert_eq!(rt; fault.number(), 2);
+                tells(&rt, Refusal::from(fault), 2, 10, Layer::Record);
+            }
         }
         assert_eq!(rt; records.offset(), 10);
     }
@@ -48,7 +52,10 @@ fn entries_stop_at_the_first_fault(rt: HostRuntime) -> Result<(), Fail> {
         assert_eq!(rt; entries.offset(), 6);
         match entries.next() {
             Ok(_) => return Err(Fail::new("a message without its body")),
-            Err(fault) => tells(&rt, fault.refusal(), 3, 6, Layer::Message),
+            Err(fault) => {
+                assert_eq!(rt; fault.number(), 3);
+                tells(&rt, Refusal::from(fault), 3, 6, Layer::Message);
+            }
         }
     }
     assert_eq!(rt; entries.offset(), 6);
@@ -68,7 +75,7 @@ fn entries_up_to_the_end(rt: HostRuntime) -> Result<(), Fail> {
                 sender: 2,
                 receiver: 3,
                 value: 4,
-                ..ZERO
+                ..Message::default()
             },
         ),
         _ => return Err(Fail::new("no message")),
@@ -80,5 +87,15 @@ fn entries_up_to_the_end(rt: HostRuntime) -> Result<(), Fail> {
             _ => return Err(Fail::new("an entry past the end")),
         }
     }
+    Ok(())
+}
+
+#[test]
+fn a_refusal_as_it_is_printed(rt: HostRuntime) -> Result<(), Fail> {
+    let fault = FileFault::Capacity { offset: 2048 };
+    assert_eq!(rt; fault.number(), 4);
+    let refusal = Refusal::from(fault);
+    let text = format!(in rt.alloc(); "{refusal}")?;
+    assert_eq!(rt; text.as_str(), "refused 4 at 2048");
     Ok(())
 }

@@ -1,4 +1,4 @@
-use crate::samples::{DISTINCT_BYTES, FILLER, ZERO, distinct, reads, same, unchanged};
+use crate::samples::{DISTINCT_BYTES, FILLER, distinct, reads, same, unchanged};
 use std::test::Fail;
 use wire::Message;
 
@@ -22,7 +22,7 @@ fn one_message(rt: HostRuntime) -> Result<(), Fail> {
             receiver: 1,
             count: 1,
             value: 5,
-            ..ZERO
+            ..Message::default()
         },
     );
     same(&rt, &table[1], &FILLER);
@@ -47,8 +47,22 @@ fn comments_between_messages(rt: HostRuntime) -> Result<(), Fail> {
         b"\x04\0\x02\0\x10\0\x01\0\x01\0\0\0\0\0\0\0\0\0\0\0\x06\0\x02\0\x10\0\x10\0\x01\0\x02\0\0\0\0\0\0\0\0\0\0\0\x05\0\x02\0\x01";
     let mut table = [FILLER; 3];
     reads(&rt, file, &mut table, 2)?;
-    same(&rt, &table[0], &Message { round: 1, ..ZERO });
-    same(&rt, &table[1], &Message { round: 2, ..ZERO });
+    same(
+        &rt,
+        &table[0],
+        &Message {
+            round: 1,
+            ..Message::default()
+        },
+    );
+    same(
+        &rt,
+        &table[1],
+        &Message {
+            round: 2,
+            ..Message::default()
+        },
+    );
     same(&rt, &table[2], &FILLER);
     Ok(())
 }

@@ -15,16 +15,6 @@ pub(crate) const FILLER: Message = Message {
     }; MAX_SIGNATURES],
 };
 
-// A message of which each byte is zero, with no signatures.
-pub(crate) const ZERO: Message = Message {
-    round: 0,
-    sender: 0,
-    receiver: 0,
-    count: 0,
-    value: 0,
-    signatures: [Signature { signer: 0, tag: 0 }; MAX_SIGNATURES],
-};
-
 // A message of which each field differs from the others, with one signature.
 pub(crate) fn distinct() -> Message {
     let mut message = Message {
@@ -33,7 +23,7 @@ pub(crate) fn distinct() -> Message {
         receiver: 23,
         count: 1,
         value: 0x0807_0605_0403_0201,
-        ..ZERO
+        ..Message::default()
     };
     message.signatures[0] = Signature {
         signer: 9,
@@ -46,15 +36,23 @@ pub(crate) const DISTINCT_BYTES: &[u8; 25] =
     b"\x19\0\x01\0\x15\x16\x17\x01\x01\x02\x03\x04\x05\x06\x07\x08\x09\x0b\x0c\x0d\x0e\x0f\x10\x11\x12";
 
 pub(crate) fn same(rt: &impl Abort, left: &Message, right: &Message) {
-    assert_eq!(rt; left.round, right.round);
-    assert_eq!(rt; left.sender, right.sender);
-    assert_eq!(rt; left.receiver, right.receiver);
-    assert_eq!(rt; left.count, right.count);
-    assert_eq!(rt; left.value, right.value);
-    for (one, other) in left.signatures.iter().zip(right.signatures.iter()) {
-        assert_eq!(rt; one.signer, other.signer);
-        assert_eq!(rt; one.tag, other.tag);
-    }
+    assert_eq!(rt;
+        (
+            left.round,
+            left.sender,
+            left.receiver,
+            left.count,
+            left.value
+        ),
+        (
+            right.round,
+            right.sender,
+            right.receiver,
+            right.count,
+            right.value
+        )
+    );
+    assert_eq!(rt; left.signatures, right.signatures);
 }
 
 pub(crate) fn unchanged(rt: &impl Abort, table: &[Message]) {
@@ -100,7 +98,7 @@ pub(crate) fn refuses(
 ) -> Result<(), Fail> {
     match read_messages(file, table) {
         Ok(_) => return Err(Fail::new("the file was read")),
-        Err(fault) => tells(rt, fault.refusal(), number, offset, layer),
+        Err(fault) => tells(rt, Refusal::from(fault), number, offset, layer),
     }
     unchanged(rt, table);
     Ok(())
@@ -108,9 +106,9 @@ pub(crate) fn refuses(
 
 // Makes a row of messages with no signatures of a file of zeros; their rounds count them.
 pub(crate) fn put_messages(file: &mut [u8]) {
-    for i in 0..file.len() / 16 {
-        file[16 * i] = 16;
-        file[16 * i + 2] = 1;
-        file[16 * i + 4] = (i % 256) as u8;
+    for (i, record) in file.chunks_exact_mut(16).enumerate() {
+        record[0] = 16;
+        record[2] = 1;
+        record[4] = (i % 256) as u8;
     }
 }

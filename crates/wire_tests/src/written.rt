@@ -1,4 +1,5 @@
-use crate::samples::{DISTINCT_BYTES, FILLER, ZERO, distinct, reads, same};
+use crate::samples::{DISTINCT_BYTES, FILLER, distinct, reads, same};
+use refusals::Numbered;
 use std::process::Abort;
 use std::test::Fail;
 use wire::{MAX_SIGNATURES, Message, Signature, write_message};
@@ -63,9 +64,9 @@ fn each_byte_of_a_message(rt: HostRuntime) -> Result<(), Fail> {
 
 #[test]
 fn a_buffer_as_long_as_the_message(rt: HostRuntime) -> Result<(), Fail> {
-    writes(&rt, &ZERO, &mut [7; 16], 16)?;
-    lacks(&rt, &ZERO, &mut [7; 15], 16)?;
-    lacks(&rt, &ZERO, &mut [], 16)?;
+    writes(&rt, &Message::default(), &mut [7; 16], 16)?;
+    lacks(&rt, &Message::default(), &mut [7; 15], 16)?;
+    lacks(&rt, &Message::default(), &mut [], 16)?;
     writes(&rt, &GREATEST, &mut [7; 160], 160)?;
     lacks(&rt, &GREATEST, &mut [7; 159], 160)
 }
@@ -93,9 +94,9 @@ fn a_count_above_sixteen_means_sixteen(rt: HostRuntime) -> Result<(), Fail> {
 #[test]
 fn what_is_written_is_read(rt: HostRuntime) -> Result<(), Fail> {
     let mut message = GREATEST;
-    for i in 0..MAX_SIGNATURES {
-        message.signatures[i].signer = 255 - i as u8;
-        message.signatures[i].tag = 0xffff_ffff_ffff_ffff - i as u64;
+    for (i, signature) in message.signatures.iter_mut().enumerate() {
+        signature.signer = 255 - i as u8;
+        signature.tag = 0xffff_ffff_ffff_ffff - i as u64;
     }
     let mut file = [7; 160];
     writes(&rt, &message, &mut file, 160)?;

@@ -13,8 +13,7 @@ returns-then-file-gt-MAX_FILE c =
     let large = reading_large file (length table) c.if-file-gt-MAX_FILE.true in
     let told = sym (ap (counted 0) large) in
     let left = sym (ap (filled table) large) in
-    let l = lawful file table _ _ told left (octets file c.type_inv.file) in
-    record { answer = told; table = left; written_is_read = l.written; read_is_written = l.read; first_fault = l.first }
+    lawful file table _ _ told left (octets file c.type_inv.file)
 
 pub returns-in_err-count : goal.returns-in_err-count
 returns-in_err-count c =
@@ -26,8 +25,7 @@ returns-in_err-count c =
     let same = c.in_err-count.ensures ∙ ap (λ n. counted 0 (messages_at n 0 file)) most ∙ sym (ap (counted 0) small) in
     let told : file_answer c.from_residual.result ≡ counted 0 (reading file (length table)) = rw (p.1, p.2) same in
     let left = sym (filled_refused table (reading file (length table)) _ same) in
-    let l = lawful file table _ _ told left (octets file c.type_inv.file) in
-    record { answer = told; table = left; written_is_read = l.written; read_is_written = l.read; first_fault = l.first }
+    lawful file table _ _ told left (octets file c.type_inv.file)
 
 pub returns : goal.returns
 returns c =
@@ -37,5 +35,4 @@ returns c =
     let small = reading_small file (length table) c.if-file-gt-MAX_FILE.false in
     let told = c.in_ok-count.ensures ∙ ap (λ n. counted 0 (messages_at n 0 file)) most ∙ sym (ap (counted 0) small) in
     let left = c.fill.ensures.table ∙ sym (ap (filled table) small) in
-    let l = lawful file table _ _ told left (octets file c.type_inv.file) in
-    record { answer = told; table = left; written_is_read = l.written; read_is_written = l.read; first_fault = l.first }
+    lawful file table _ _ told left (octets file c.type_inv.file)

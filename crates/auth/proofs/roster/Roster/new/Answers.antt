@@ -1,12 +1,8 @@
-use Rattle.std.proofs.Common.{arith}
-use Rattle.auth.proofs.RosterFacts.{flagged_more, refused, made}
+use Rattle.std.proofs.Common.{sym}
+use Rattle.auth.specs.Lists.{has}
+use Rattle.auth.specs.Made.{not_listed}
+use Rattle.auth.specs.Tables.{default_table}
 use Rattle.auth.proofs.roster.Roster.new.Goals as goal
 
-pub returns-then-node-nodes : goal.returns-then-node-nodes
-returns-then-node-nodes c = record { answer = refused _ _ _ _ _ c.loop-node.invariant (omega arith) (omega arith) }
-
-pub loop-node-preserved : goal.loop-node-preserved
-loop-node-preserved c = flagged_more _ 0 _ _ _ c.loop-node.invariant (omega arith) (omega arith)
-
-pub returns : goal.returns
-returns c = record { answer = made _ _ _ _ _ c.loop-node.invariant (omega arith) (omega arith) (omega arith) (omega arith) }
+pub invariant_of-result-clause-absent : goal.invariant_of-result-clause-absent
+invariant_of-result-clause-absent c = λ k past. rw c.flags.ensures (default_table (has c.args.faulty.now) k _ (not_listed c.args.nodes c.args.faulty.now (sym c.if-not-all_below.ensures) k past))

@@ -1,11 +1,8 @@
-use Rattle.std.proofs.Common.{refl, arith}
-use Rattle.auth.specs.Tables.{is_table}
+use Rattle.std.proofs.Common.{rules}
+use Rattle.auth.proofs.MadeTables.{made_table}
 use Rattle.broadcast.specs.Direct.{direct_outcomes}
 use Rattle.broadcast.proofs.direct.DirectBroadcastBroadcast.broadcast.Goals as goal
 
-pub returns : goal.returns
+pub returns-clause-answer : goal.returns-clause-answer
 unfolding direct_outcomes
-returns c = record {
-  answer = is_table _ c.loop-node.outcomes 0 c.loop-node.invariant.0 (λ k h. c.loop-node.invariant.1 k (omega arith));
-  after = refl;
-}
+returns-clause-answer c = made_table _ _ _ (λ i y q called. search rules) _ 0 c.from_fn.ensures.items

@@ -1,0 +1,63 @@
+ghost use Rattle.std.specs.Prelude.{◌≡◌, ◌-◌, true, false, ◌++◌, drop, map, replicate, slice_index, slice_index_or, MatchOption};
+ghost use Rattle.wire.specs.Reading.{blank, signature_from, signatures_from, message_from, well_formed};
+
+use crate::layout::{BODY, SIGNATURE};
+use crate::message::{MAX_SIGNATURES, Message, Signature};
+use little_endian::read_u64;
+use std::array;
+
+// The body of a message: at most 16 signatures, and as many bytes as they take.
+#[derive(Clone, Copy)]
+pub(crate) struct MessageBody<'a> {
+    bytes: &'a [u8],
+    ghost well_formed: { well_formed bytes.now ≡ true },
+}
+
+impl<'a> MessageBody<'a> {
+    pub(crate) fn new(bytes: &'a [u8]) -> Option<Self>
+        ensures { MatchOption result (well_formed bytes.now ≡ false) (λ body. body.bytes.now ≡ bytes.now) }
+    {
+        let count = usize::from(*bytes.get(3)?);
+        if count > MAX_SIGNATURES || bytes.len() != BODY + SIGNATURE * count {
+            return None;
+        }
+        Some(MessageBody { bytes })
+    }
+
+    pub(crate) fn message(self) -> Message
+        ensures { result ≡ message_from self.entry.bytes.now }
+    {
+        Message {
+            round: self.bytes[0],
+            sender: self.bytes[1],
+            receiver: self.bytes[2],
+            count: self.bytes[3],
+            value: read_u64(&self.bytes[4..]),
+            signatures: self.signatures(),
+        }
+    }
+
+    // The signatures, and blanks after them.
+    fn signatures(self) -> [Signature; MAX_SIGNATURES]
+        ensures { let count = slice_index self.entry.bytes.now 3 in result ≡ signatures_from count (drop 12 self.entry.bytes.now) ++ replicate (16 - count) blank }
+    {
+        let (chunks, _) = self.bytes[BODY..].as_chunks::<SIGNATURE>();
+        array::from_fn(|place| signature_or_blank(chunks, place))
+    }
+}
+
+// The signature at a place, or a blank past the last.
+fn signature_or_blank(chunks: &[[u8; SIGNATURE]], place: usize) -> Signature
+    ensures { result ≡ slice_index_or (map signature_from chunks.now) place blank }
+{
+    chunks.get(place).map(signature_in).unwrap_or_default()
+}
+
+fn signature_in(bytes: &[u8; SIGNATURE]) -> Signature
+    ensures { result ≡ signature_from bytes.now }
+{
+    Signature {
+        signer: bytes[0],
+        tag: read_u64(&bytes[1..]),
+    }
+}
