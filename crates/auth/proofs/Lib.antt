@@ -1,2 +1,3 @@
+pub mod ListedFlags
 pub mod MadeTables
 pub mod RequestFacts

@@ -1,4 +1,4 @@
--- Tables that are made by a call at each place.
+-- Tables that are made by a call at each place, for the crates that rest on this one.
 use Rattle.std.proofs.Common.{◌≡◌, ℕ, List, refl, subst, arith}
 use Rattle.std.specs.Array.{IsFromFnResult}
 use denote.Param.Members.{Mut, Called}

@@ -1,6 +1,7 @@
 -- Who takes part in a broadcast, and which rosters are made.
 use Rattle.std.specs.Prelude.{ℕ, ◌≤◌, Bool, false, not, ◌&&◌, nat_lt, List, Ok, Err, Result, nat_le, slice_index_or, if◌then◌else◌}
 use Rattle.std.specs.List.{list_all}
+use Rattle.std.specs.Result.{result_map_both}
 use Rattle.std.proofs.Common.{lit≤}
 use Rattle.auth.specs.declared.roster.Roster.{Roster}
 use Rattle.auth.specs.declared.roster.RosterFault.{RosterFault}
@@ -31,8 +32,7 @@ roster_number OutOfBounds = (lit≤ tt, lit≤ tt)
 
 -- an answer as it is told: the roster's parts, or the refusal's number
 abbrev pub roster_answer : Result Roster RosterFault → Result Parts ℕ
-roster_answer (Ok r) = Ok (record { nodes = r.nodes; bound = r.bound; faulty = r.faulty })
-roster_answer (Err f) = Err (fault_number f)
+roster_answer = result_map_both (λ r. record { nodes = r.nodes; bound = r.bound; faulty = r.faulty }) fault_number
 
 -- the numbers that make a roster: 1 to 16 nodes, a bound below that, and faulty nodes that are among them
 abbrev pub in_bounds : ℕ → ℕ → List ℕ → Bool

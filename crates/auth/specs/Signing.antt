@@ -1,5 +1,6 @@
 -- Signing: what the nodes have signed in a turn, what a further request adds, which tags are valid, and which of them are forged.
-use Rattle.std.specs.Prelude.{◌≡◌, ℕ, ◌≤◌, Bool, false, not, ◌&&◌, ◌||◌, List, [], ◌∷◌, ◌++◌, length, Ok, Err, Result, nat_lt, slice_index_or, slice_set, if◌then◌else◌}
+use Rattle.std.specs.Prelude.{◌≡◌, ℕ, ◌≤◌, Bool, true, false, not, ◌&&◌, ◌||◌, List, [], ◌∷◌, ◌++◌, length, Ok, Err, Result, nat_lt, slice_index_or, slice_set, if◌then◌else◌}
+use Rattle.std.specs.Result.{result_map_both}
 use Rattle.std.proofs.Common.{lit≤}
 use Rattle.auth.specs.declared.fault.SignFault.{SignFault}
 use Rattle.auth.specs.declared.fault.SignFault.TheVariants.{NotAllowed}
@@ -42,8 +43,7 @@ signing_number NotAllowed = (lit≤ tt, lit≤ tt)
 
 -- an answer as it is told, but for the tag: the value is signed, or the refusal's number
 abbrev pub sign_answer : {T : Type 0} → Result T SignFault → Result (Unit {0}) ℕ
-sign_answer (Ok tag) = Ok tt
-sign_answer (Err fault) = Err (sign_fault_number fault)
+sign_answer = result_map_both (λ _. tt) sign_fault_number
 
 abbrev pub signing : List (List ℕ) → ℕ → ℕ → Result (Unit {0}) ℕ
 signing lists node value = if may_sign lists node value then Ok tt else Err 13
@@ -59,3 +59,7 @@ forged roster rule turn lists node value tag = honest roster node && rule turn l
 -- no tag is ever forged, whatever was signed
 abbrev pub Unforgeable : Roster → Rule → Type 0
 Unforgeable roster rule = (turn : ℕ) (lists : List (List ℕ)) (node value tag : ℕ) → forged roster rule turn lists node value tag ≡ false
+
+-- a valid tag stays valid, whatever is signed next
+abbrev pub Lasting : Rule → Type 0
+Lasting rule = (turn : ℕ) (lists : List (List ℕ)) (node value tag : ℕ) → rule turn lists node value tag ≡ true → (signer other : ℕ) → rule turn (after_signing lists signer other) node value tag ≡ true

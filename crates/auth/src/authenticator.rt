@@ -1,9 +1,9 @@
 ghost use Rattle.std.specs.Prelude.{◌≡◌, ℕ, ◌<◌, ◌≤◌, true, List, length, IfOk, OnErr};
-ghost use Rattle.auth.specs.Signing.{Rule, signed_by, none_signed, after_signing, sign_answer, signing};
+ghost use Rattle.auth.specs.Signing.{Rule, Lasting, signed_by, none_signed, after_signing, sign_answer, signing};
 
 use crate::fault::SignFault;
 
-// Signs values for the nodes and verifies signatures. Within a turn a node signs at most two values.
+/// Signs values for the nodes and verifies signatures. Within a turn a node signs at most two values.
 pub trait Authenticator {
     // the turn in hand
     ghost turn: { Self → ℕ };
@@ -14,13 +14,13 @@ pub trait Authenticator {
     // which tags are valid; turn and lists alone decide it
     ghost rule: { Self → Rule };
 
-    // Takes a turn in hand, in which nobody has signed yet.
+    /// Takes a turn in hand, in which nobody has signed yet.
     fn begin(&mut self, number: u8)
         ensures turn_in_hand { turn self.new ≡ number }
         ensures nothing_signed { signed self.new ≡ none_signed }
         ensures same_rule { rule self.new ≡ rule self.old };
 
-    // Signs for a node, and answers its tag.
+    /// Signs for a node, and answers its tag.
     fn sign(&mut self, node: u8, value: u64) -> Result<u64, SignFault>
         ensures answer { sign_answer result ≡ signing (signed self.old) node value }
         ensures tag_is_valid { IfOk result (λ tag. rule self.new (turn self.new) (signed self.new) node value tag ≡ true) }
@@ -29,7 +29,7 @@ pub trait Authenticator {
         ensures same_rule { rule self.new ≡ rule self.old }
         ensures refused_unchanged { OnErr result (self.new ≡ self.old) };
 
-    // Whether the tag is valid for the node and the value.
+    /// Whether the tag is valid for the node and the value.
     fn verify(&self, node: u8, value: u64, tag: u64) -> bool
         ensures { result ≡ rule self.now (turn self.now) (signed self.now) node value tag };
 
@@ -43,5 +43,5 @@ pub trait Authenticator {
     ghost at_most_two: { (a : Self) (node : ℕ) → length (signed_by (signed a) node) ≤ 2 };
 
     // a valid tag stays valid, whatever is signed next
-    ghost lasting: { (a : Self) (turn : ℕ) (lists : List (List ℕ)) (node value tag : ℕ) → rule a turn lists node value tag ≡ true → (signer other : ℕ) → rule a turn (after_signing lists signer other) node value tag ≡ true };
+    ghost lasting: { (a : Self) → Lasting (rule a) };
 }

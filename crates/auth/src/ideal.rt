@@ -8,19 +8,19 @@ ghost use Rattle.auth.specs.Signing.{Unforgeable};
 use crate::authenticator::Authenticator;
 use crate::recording::Recording;
 use crate::roster::{MAX_NODES, Roster};
-use crate::scheme::Scheme;
+use crate::scheme::{Claim, Scheme};
 
-// A record of what was signed, which all nodes share and believe: what signatures are meant to be.
+/// A record of what was signed, which all nodes share and believe: what signatures are meant to be.
 pub type IdealAuthenticator = Recording<IdealScheme>;
 
-// Every tag is 0, and the record decides which are valid, but for the faulty nodes: their firms have the keys and may sign anything at any time.
+/// Every tag is 0, and the record decides which are valid, but for the faulty nodes: their firms have the keys and may sign anything at any time.
 #[derive(Drop)]
 pub struct IdealScheme {
     faulty: [bool; MAX_NODES],
 }
 
 impl Recording<IdealScheme> {
-    // Turn 0 is in hand, and nobody has signed. Under its rule no signature of an honest node can be forged, whatever is signed.
+    /// Turn 0 is in hand, and nobody has signed. Under its rule no signature of an honest node can be forged, whatever is signed.
     pub fn new(roster: &Roster) -> IdealAuthenticator
         ensures begun { Begun result.current 0 }
         ensures same_flags { result.scheme.faulty ≡ roster.now.faulty }
@@ -34,7 +34,7 @@ impl Recording<IdealScheme> {
 }
 
 impl IdealScheme {
-    // As the roster's, but of the flags alone; a type for them would be longer than the two lines.
+    // Not the roster's `is_faulty`, as the scheme keeps no more of a roster than its flags.
     fn is_faulty(&self, node: u8) -> bool
         ensures { result ≡ flagged self.now.faulty node }
     {
@@ -47,11 +47,11 @@ impl Scheme for IdealScheme {
 
     ghost lasting = { λ s. ideal_lasts s.faulty };
 
-    fn tag(&self, _turn: u8, _node: u8, _value: u64) -> u64 {
+    fn tag(&self, _claim: Claim) -> u64 {
         0
     }
 
-    fn is_valid(&self, _turn: u8, node: u8, _value: u64, signed: bool, tag: u64) -> bool {
-        tag == 0 && (self.is_faulty(node) || signed)
+    fn is_valid(&self, claim: Claim, signed: bool, tag: u64) -> bool {
+        tag == 0 && (self.is_faulty(claim.node) || signed)
     }
 }

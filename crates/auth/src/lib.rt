@@ -18,4 +18,5 @@ pub use fault::SignFault;
 pub use ideal::IdealAuthenticator;
 pub use laws::signing_laws_hold;
 pub use mac::MacAuthenticator;
+pub use refusals::Numbered;
 pub use roster::{MAX_NODES, Roster, RosterFault};

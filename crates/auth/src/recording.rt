@@ -4,10 +4,10 @@ ghost use Rattle.auth.specs.Recorded.{Begun, lists};
 
 use crate::authenticator::Authenticator;
 use crate::fault::SignFault;
-use crate::scheme::Scheme;
+use crate::scheme::{Claim, Scheme};
 use crate::turn_record::TurnRecord;
 
-// An authenticator over any scheme: it keeps record of what the nodes have signed in the turn in hand.
+/// An authenticator over any scheme: it keeps a record of what the nodes have signed in the turn in hand.
 #[derive(Drop)]
 pub struct Recording<S> {
     pub(crate) scheme: S,
@@ -48,12 +48,14 @@ impl<S: Scheme> Authenticator for Recording<S> {
 
     fn sign(&mut self, node: u8, value: u64) -> Result<u64, SignFault> {
         self.current.sign(node, value)?;
-        Ok(self.scheme.tag(self.current.turn, node, value))
+        let turn = self.current.turn;
+        Ok(self.scheme.tag(Claim { turn, node, value }))
     }
 
     fn verify(&self, node: u8, value: u64, tag: u64) -> bool {
         let signed = self.current.has_signed(node, value);
+        let turn = self.current.turn;
         self.scheme
-            .is_valid(self.current.turn, node, value, signed, tag)
+            .is_valid(Claim { turn, node, value }, signed, tag)
     }
 }

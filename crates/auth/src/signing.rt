@@ -1,25 +1,12 @@
 ghost use Rattle.std.specs.Prelude.{◌≡◌, OnErr};
 ghost use Rattle.std.specs.Option.{option_map};
 ghost use Rattle.auth.specs.Lists.{has};
-ghost use Rattle.auth.specs.Signing.{signed_by, after_signing, sign_answer, signing, sign_fault_number, signing_number};
+ghost use Rattle.auth.specs.Signing.{signed_by, after_signing, sign_answer, signing};
 ghost use Rattle.auth.specs.Recorded.{Begun, values, lists, joined};
 
 use crate::fault::SignFault;
 use crate::roster::MAX_NODES;
 use crate::turn_record::{SignedValues, TurnRecord};
-use refusals::Numbered;
-
-impl Numbered for SignFault {
-    ghost number = { sign_fault_number };
-
-    ghost from_one = { λ fault. (signing_number fault).0 };
-
-    ghost to_fifteen = { λ fault. (signing_number fault).1 };
-
-    fn number(&self) -> u8 {
-        *self as u8
-    }
-}
 
 impl SignedValues {
     fn has(self, value: u64) -> bool

@@ -2,7 +2,8 @@ ghost use Rattle.std.specs.Prelude.{◌≡◌, ◌<◌, length};
 
 use crate::roster::MAX_NODES;
 
-// What one node has signed in a turn. Two options in a row could hold a second value without a first, and would need an invariant.
+// What one node has signed in a turn.
+// The type has no invariant. Contracts do not see that an `ArrayVec<u64, 2>` holds at most two: each list of a record would need one.
 #[derive(Clone, Copy)]
 pub(crate) enum SignedValues {
     Nothing,
@@ -10,6 +11,7 @@ pub(crate) enum SignedValues {
     Two(u64, u64),
 }
 
+// The methods are in `signing`, for the same reason as a roster's are in `rosters`.
 // The turn in hand, and what each of the nodes 0 to 15 has signed in it.
 #[derive(Drop)]
 pub(crate) struct TurnRecord {

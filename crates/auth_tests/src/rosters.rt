@@ -1,5 +1,4 @@
-use auth::{Roster, RosterFault};
-use refusals::Numbered;
+use auth::{Numbered, Roster, RosterFault};
 use std::test::Fail;
 
 #[test]

@@ -80,7 +80,7 @@ fn counted() -> [u8; 64] {
 fn the_published_tags(rt: HostRuntime) {
     let bytes = counted();
     for (length, tag) in TAGS.iter().enumerate() {
-        assert_eq!(rt; siphash(&KEY, &bytes[0..length]), *tag);
+        assert_eq!(rt; siphash(&KEY, &bytes[..length]), *tag);
     }
 }
 

@@ -1,5 +1,4 @@
-use auth::{Authenticator, SignFault};
-use refusals::Numbered;
+use auth::{Authenticator, Numbered, SignFault};
 use std::process::Abort;
 
 // What every authenticator does with the requests of two turns.

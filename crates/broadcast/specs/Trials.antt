@@ -19,7 +19,7 @@ sent round sender receiver value signers = record {
 
 -- the outcomes of the nodes, in their order
 abbrev pub of_nodes : (Instance → List ℕ) → Instance → List ℕ
-of_nodes outcomes i = take i.roster.nodes (outcomes i)
+of_nodes outcomes i = take i.turn.roster.nodes (outcomes i)
 
 pub record Trials : Type 0 where
   -- direct: the faulty leader of three nodes sends node 1 the value 5 and node 2 the value 6, and each takes its own

@@ -6,8 +6,8 @@ use crate::turn::Turn;
 use auth::MAX_NODES;
 use wire::Message;
 
-// A protocol that brings the leader's proposal to the nodes, whatever the faulty ones send. It never refuses.
-// Its state and the instance fix the outcomes and the condition.
+/// A protocol that brings the leader's proposal to the nodes, whatever the faulty ones send. It never refuses.
+/// Its state and the instance fix the outcomes and the condition.
 pub trait Broadcast {
     // the value that each of the sixteen places ends with
     ghost outcomes: { Self → Instance → List ℕ };
@@ -26,14 +26,14 @@ pub trait Broadcast {
     ghost places: { (b : Self) (i : Instance) → length (outcomes b i) ≡ 16 };
 
     // 0 where no honest node is
-    ghost blank: { (b : Self) (i : Instance) (node : ℕ) → honest i.roster node ≡ false → slice_index (outcomes b i) node ≡ 0 };
+    ghost blank: { (b : Self) (i : Instance) (node : ℕ) → honest i.turn.roster node ≡ false → slice_index (outcomes b i) node ≡ 0 };
 
     // 0 everywhere for a leader that is no node
-    ghost leaderless: { (b : Self) (i : Instance) → i.roster.nodes ≤ i.leader → (node : ℕ) → slice_index (outcomes b i) node ≡ 0 };
+    ghost leaderless: { (b : Self) (i : Instance) → i.turn.roster.nodes ≤ i.turn.leader → (node : ℕ) → slice_index (outcomes b i) node ≡ 0 };
 
     // under the condition one outcome for all honest nodes
-    ghost agreement: { (b : Self) (i : Instance) → condition b i ≡ true → (first second : ℕ) → honest i.roster first ≡ true → honest i.roster second ≡ true → slice_index (outcomes b i) first ≡ slice_index (outcomes b i) second };
+    ghost agreement: { (b : Self) (i : Instance) → condition b i ≡ true → (first second : ℕ) → honest i.turn.roster first ≡ true → honest i.turn.roster second ≡ true → slice_index (outcomes b i) first ≡ slice_index (outcomes b i) second };
 
     // and with an honest leader it is the proposal
-    ghost validity: { (b : Self) (i : Instance) → condition b i ≡ true → honest i.roster i.leader ≡ true → (node : ℕ) → honest i.roster node ≡ true → slice_index (outcomes b i) node ≡ i.proposal };
+    ghost validity: { (b : Self) (i : Instance) → condition b i ≡ true → honest i.turn.roster i.turn.leader ≡ true → (node : ℕ) → honest i.turn.roster node ≡ true → slice_index (outcomes b i) node ≡ i.turn.proposal };
 }

@@ -3,9 +3,10 @@
 
 use depot_turn::respond;
 use std::io::Read;
+use wire::MAX_FILE;
 
 // One byte more than a file may have, so that a larger one is seen to be too large.
-const KEPT: u64 = 32_769;
+const KEPT: u64 = MAX_FILE as u64 + 1;
 
 fn main(rt: HostRuntime) -> anyhow::Result<()> {
     let mut file = Vec::new(rt.alloc());

@@ -26,7 +26,7 @@ fn a_faulty_leader_parts_the_nodes(rt: HostRuntime) -> Result<(), Fail> {
         },
         &messages,
     );
-    assert!(rt; outcomes == [0, 5, 6, 0, 0, 0, 0, 0, 0, 0, 0, 0, 0, 0, 0, 0]);
+    assert_eq!(rt; outcomes, [0, 5, 6, 0, 0, 0, 0, 0, 0, 0, 0, 0, 0, 0, 0, 0]);
     Ok(())
 }
 
@@ -44,11 +44,11 @@ fn an_honest_leader_brings_its_proposal(rt: HostRuntime) -> Result<(), Fail> {
         &messages,
     );
     let all = u64::MAX;
-    assert!(rt;
-        outcomes
-            == [
-                all, 0, all, all, all, all, all, all, all, all, all, all, all, all, all, 0,
-            ]
+    assert_eq!(rt;
+        outcomes,
+        [
+            all, 0, all, all, all, all, all, all, all, all, all, all, all, all, all, 0,
+        ]
     );
     Ok(())
 }
@@ -57,16 +57,15 @@ fn an_honest_leader_brings_its_proposal(rt: HostRuntime) -> Result<(), Fail> {
 fn no_leader_no_outcome(rt: HostRuntime) -> Result<(), Fail> {
     let roster = Roster::new(3, 1, &[0])?;
     let messages = [sent(0, 3, 1, 5), sent(0, 0, 1, 6)];
-    assert!(rt;
-        DirectBroadcast.broadcast(
-            &Turn {
-                roster,
-                number: 0,
-                leader: 3,
-                proposal: 8
-            },
-            &messages
-        ) == [0; 16]
+    let outcomes = DirectBroadcast.broadcast(
+        &Turn {
+            roster,
+            number: 0,
+            leader: 3,
+            proposal: 8,
+        },
+        &messages,
     );
+    assert_eq!(rt; outcomes, [0; 16]);
     Ok(())
 }

@@ -15,9 +15,15 @@ fn message(round: u8, sender: u8, receiver: u8, value: u8) -> [u8; 25] {
     file
 }
 
-fn prints(rt: &(impl Abort + AllocGlobal), file: &[u8], expected: &str) -> Result<(), Fail> {
+// `which` says which case it is, where it fails.
+fn prints(
+    rt: &(impl Abort + AllocGlobal),
+    which: &'static str,
+    file: &[u8],
+    expected: &str,
+) -> Result<(), Fail> {
     let text = respond(rt.alloc(), file)?;
-    assert!(rt; text.as_str() == expected, "{}", expected);
+    assert!(rt; text.as_str() == expected, "{}", which);
     Ok(())
 }
 
@@ -27,41 +33,33 @@ const SILENCE: &str = "box,state,outcome\n0,faulty,0\n1,honest,0\n2,honest,0\n3,
 fn a_message_reaches_its_receiver(rt: HostRuntime) -> Result<(), Fail> {
     prints(
         &rt,
+        "5 to node 1",
         &message(0, 0, 1, 5),
         "box,state,outcome\n0,faulty,0\n1,honest,5\n2,honest,0\n3,honest,0\n",
     )?;
     prints(
         &rt,
+        "255 to node 3",
         &message(0, 0, 3, 255),
         "box,state,outcome\n0,faulty,0\n1,honest,0\n2,honest,0\n3,honest,255\n",
     )
 }
 
-fn is_silent(
-    rt: &(impl Abort + AllocGlobal),
-    file: &[u8],
-    which: &'static str,
-) -> Result<(), Fail> {
-    let text = respond(rt.alloc(), file)?;
-    assert!(rt; text.as_str() == SILENCE, "{}", which);
-    Ok(())
-}
-
 #[test]
 fn other_messages_do_nothing(rt: HostRuntime) -> Result<(), Fail> {
-    is_silent(&rt, &[], "an empty file")?;
-    is_silent(&rt, &[4, 0, 2, 0], "a comment")?;
-    is_silent(&rt, &message(1, 0, 1, 5), "of round 1")?;
-    is_silent(&rt, &message(0, 2, 1, 5), "from an honest node")?;
-    is_silent(&rt, &message(0, 0, 0, 5), "to the faulty node")?;
-    is_silent(&rt, &message(0, 0, 4, 5), "to no node")
+    prints(&rt, "an empty file", &[], SILENCE)?;
+    prints(&rt, "a comment", &[4, 0, 2, 0], SILENCE)?;
+    prints(&rt, "of round 1", &message(1, 0, 1, 5), SILENCE)?;
+    prints(&rt, "from an honest node", &message(0, 2, 1, 5), SILENCE)?;
+    prints(&rt, "to the faulty node", &message(0, 0, 0, 5), SILENCE)?;
+    prints(&rt, "to no node", &message(0, 0, 4, 5), SILENCE)
 }
 
 #[test]
 fn refusals_have_number_and_offset(rt: HostRuntime) -> Result<(), Fail> {
-    prints(&rt, &[25, 0, 1], "refused 1 at 0\n")?;
-    prints(&rt, &[4, 0, 2, 0, 9], "refused 1 at 4\n")?;
-    prints(&rt, &[4, 0, 3, 0], "refused 2 at 0\n")?;
-    prints(&rt, &[4, 0, 1, 0], "refused 3 at 0\n")?;
-    prints(&rt, &[0; 32_769], "refused 4 at 32768\n")
+    prints(&rt, "a cut header", &[25, 0, 1], "refused 1 at 0\n")?;
+    prints(&rt, "a cut record", &[4, 0, 2, 0, 9], "refused 1 at 4\n")?;
+    prints(&rt, "an unknown kind", &[4, 0, 3, 0], "refused 2 at 0\n")?;
+    prints(&rt, "no message", &[4, 0, 1, 0], "refused 3 at 0\n")?;
+    prints(&rt, "too large", &[0; 32_769], "refused 4 at 32768\n")
 }

@@ -8,14 +8,14 @@ use broadcast::{DirectBroadcast, Turn};
 use std::alloc::{AllocError, Global};
 use wire::Refusal;
 
-// Four nodes of which one may be faulty, and node 0 is.
+/// Four nodes of which one may be faulty, and node 0 is.
 pub fn depot_roster() -> Roster
     ensures { result ≡ depot }
 {
     Roster::new(4, 1, &[0]).unwrap()
 }
 
-// What the program prints for a message file: the outcomes of a turn that node 0 leads, or the file's refusal.
+/// What the program prints for a message file: the outcomes of a turn that node 0 leads, or the file's refusal.
 pub fn respond(heap: Global, file: &[u8]) -> Result<String, AllocError>
     ensures { IfOk result (λ s. string_bytes s ≡ response file.now) }
 {

@@ -16,7 +16,7 @@ fn state_name(roster: &Roster, node: u8) -> &'static str
     }
 }
 
-// A heading, and then a line for each node.
+/// A heading, and then a line for each node.
 pub fn outcomes_text(
     heap: Global,
     roster: &Roster,
@@ -32,6 +32,7 @@ pub fn outcomes_text(
     Ok(text)
 }
 
+/// The refusal, and the end of the line.
 pub fn refusal_text(heap: Global, refusal: &Refusal) -> Result<String, AllocError>
     ensures { IfOk result (λ s. string_bytes s ≡ refusal_text refusal.now) }
 {

@@ -7,7 +7,7 @@ use auth::MAX_NODES;
 use broadcast::{Broadcast, Turn};
 use wire::{FileFault, MAX_MESSAGES, Message, read_messages};
 
-// Reads the messages of a file and broadcasts the turn's proposal among them; where the file is refused, nothing is broadcast.
+/// Reads the messages of a file and broadcasts the turn's proposal among them; where the file is refused, nothing is broadcast.
 pub fn run_turn<B: Broadcast>(
     broadcast: &mut B,
     turn: &Turn,
@@ -18,5 +18,5 @@ pub fn run_turn<B: Broadcast>(
 {
     let mut table = [Message::default(); MAX_MESSAGES];
     let count = read_messages(file, &mut table)?;
-    Ok(broadcast.broadcast(turn, &table[0..count]))
+    Ok(broadcast.broadcast(turn, &table[..count]))
 }

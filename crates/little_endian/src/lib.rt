@@ -4,7 +4,7 @@
 ghost use Rattle.std.specs.Prelude.{◌≡◌, ◌<◌, length, take};
 ghost use Rattle.little_endian.specs.Bytes.{number};
 
-// The number that the first eight bytes write. Of fewer bytes, the number that they write.
+/// The number that the first eight bytes write. Of fewer bytes, the number that they write.
 pub fn read_u64(bytes: &[u8]) -> u64
     ensures { result ≡ number (take 8 bytes.now) }
 {

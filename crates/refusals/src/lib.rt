@@ -3,7 +3,7 @@
 
 ghost use Rattle.std.specs.Prelude.{◌≡◌, ℕ, ◌≤◌};
 
-// A reason for which something was refused. Its number is what is told of it outside the program.
+/// A reason for which something was refused. Its number is what is told of it outside the program.
 pub trait Numbered {
     ghost number: { Self → ℕ };
 
@@ -11,7 +11,5 @@ pub trait Numbered {
         ensures { result ≡ number self.now };
 
     // the numbers are 1 to 15
-    ghost from_one: { (reason : Self) → 1 ≤ number reason };
-
-    ghost to_fifteen: { (reason : Self) → number reason ≤ 15 };
+    ghost in_range: { (reason : Self) → (1 ≤ number reason) × (number reason ≤ 15) };
 }

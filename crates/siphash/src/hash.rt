@@ -5,7 +5,7 @@ ghost use Rattle.siphash.specs.SipHash.{siphash_2_4};
 use crate::state::{Key, State};
 use little_endian::read_u64;
 
-// The tag of a message.
+/// The tag of a message.
 #[tactic(auto, using(crate::proofs::WordLaws::tag_split))]
 pub fn siphash(key: &Key, message: &[u8]) -> u64
     ensures { result ≡ siphash_2_4 key.now message.now }

@@ -3,6 +3,7 @@ ghost use Rattle.siphash.specs.SipHash.{mixed, round, initial, absorbed, finishe
 
 use little_endian::read_u64;
 
+/// A secret key.
 pub type Key = [u8; 16];
 
 // The four words that the rounds mix.

@@ -1,18 +1,18 @@
 -- What is read is a message or a comment as it is written, record by record.
-use Rattle.std.proofs.Common.{◌≡◌, ℕ, zero, suc, ◌+◌, ◌-◌, ◌*◌, ◌^◌, ◌<◌, ◌≤◌, min, true, List, [], ◌∷◌, ◌++◌, length, get_or, take, drop, replicate, Some, None, Ok, sym, ap, ◌∙◌, subst, append_assoc, arith}
+use Rattle.std.proofs.Common.{◌≡◌, ℕ, zero, suc, ◌+◌, ◌-◌, ◌*◌, ◌<◌, ◌≤◌, true, List, [], ◌∷◌, ◌++◌, length, get_or, take, drop, Some, None, Ok, sym, ap, ◌∙◌, subst, append_assoc, arith}
 use Rattle.std.specs.List.{flat_map, AllByRecursion}
-use Rattle.std.proofs.lemmas.List.{length-append, length-take, length-drop, take_at, take-append-drop, drop-drop, nil_from_length}
+use Rattle.std.proofs.lemmas.List.{length-append, length-take, length-drop, take-append-drop, drop-drop, nil_from_length}
 use Rattle.std.proofs.lemmas.Bool.Decides.{nat_tests}
 use Rattle.wire.specs.declared.message.Message.{Message}
 use Rattle.little_endian.specs.Bytes.{Octets, little}
 use Rattle.wire.specs.Format.{Item, message, comment, chain, signature_bytes, body_bytes, record_bytes, message_bytes, comment_bytes, item_bytes}
-use Rattle.wire.specs.Reading.{record_at, record_length, record_kind, record_body, signatures_from, blank, message_from, well_formed}
-use Rattle.wire.specs.Laws.{Sized, Writable}
+use Rattle.wire.specs.Reading.{record_at, record_length, record_kind, record_body, signatures_from, message_from, well_formed}
+use Rattle.wire.specs.Laws.{SizedSignature, Sized, Writable}
 use Rattle.little_endian.proofs.ByteLaws.{little_first, first_below, octet_at, Octets-take, Octets-drop}
 use Rattle.wire.proofs.FileLaws.{Lies}
-use Rattle.wire.proofs.SignatureLaws.{length-signatures}
+use Rattle.wire.proofs.SignatureLaws.{length-signatures, chain_from}
 
--- bytes in five parts: two, two, n and the rest
+-- bytes in four parts: two, two, n and the rest
 four_parts : (bytes : List ℕ) (n : ℕ) → take 2 bytes ++ (take 2 (drop 2 bytes) ++ take n (drop 4 bytes)) ++ drop (4 + n) bytes ≡ bytes
 four_parts bytes n =
     let last : take n (drop 4 bytes) ++ drop (4 + n) bytes ≡ drop 4 bytes = ap (λ t. take n (drop 4 bytes) ++ t) (sym (drop-drop n 4 bytes)) ∙ take-append-drop n (drop 4 bytes) in
@@ -35,20 +35,25 @@ signatures_again (suc k) (b ∷ bytes) h (_, o) =
     let rest : length (drop 8 bytes) ≡ 9 * k = simp length-drop (omega arith) in
     ap (λ t. b ∷ t) ((λ i. little_first 8 bytes (omega arith) o i ++ signatures_again k (drop 8 bytes) rest (Octets-drop 8 bytes o) i) ∙ take-append-drop 8 bytes)
 
-pub well_formed_parts : (body : List ℕ) → well_formed body ≡ true → (12 ≤ length body) × (get_or body 3 0 ≤ 16) × (length body ≡ 12 + 9 * get_or body 3 0)
-well_formed_parts body w = (grind (arith, nat_tests), grind (arith, nat_tests), grind (arith, nat_tests))
+-- what is known of the body of a message
+pub record Formed (body : List ℕ) : Type 0 where
+  pub long : 12 ≤ length body
+  pub few : get_or body 3 0 ≤ 16
+  pub size : length body ≡ 12 + 9 * get_or body 3 0
 
-body_again : (body : List ℕ) → Octets body → (12 ≤ length body) × (get_or body 3 0 ≤ 16) × (length body ≡ 12 + 9 * get_or body 3 0) → body_bytes (message_from body) ≡ body
+pub formed : (body : List ℕ) → well_formed body ≡ true → Formed body
+formed body w = record { long = grind (arith, nat_tests); few = grind (arith, nat_tests); size = grind (arith, nat_tests) }
+
+body_again : (body : List ℕ) → Octets body → Formed body → body_bytes (message_from body) ≡ body
 unfolding message_from
 body_again [] o w = absurd (omega arith)
 body_again (_ ∷ []) o w = absurd (omega arith)
 body_again (_ ∷ _ ∷ []) o w = absurd (omega arith)
 body_again (_ ∷ _ ∷ _ ∷ []) o w = absurd (omega arith)
-body_again (r ∷ s ∷ t ∷ c ∷ more) octets (long, few, size) =
+body_again (r ∷ s ∷ t ∷ c ∷ more) octets w =
     let o = octets.1.1.1.1 in
     let rest : length (drop 8 more) ≡ 9 * c = simp length-drop (omega arith) in
-    let all : min c 16 ≡ c = omega arith in
-    let signed : chain (message_from (r ∷ s ∷ t ∷ c ∷ more)) ≡ signatures_from c (drop 8 more) = ap (λ k. take k (signatures_from c (drop 8 more) ++ replicate (16 - c) blank)) all ∙ take_at _ _ c (length-signatures c _) in
+    let signed : chain (message_from (r ∷ s ∷ t ∷ c ∷ more)) ≡ signatures_from c (drop 8 more) = chain_from (r ∷ s ∷ t ∷ c ∷ more) w.few in
     (λ i. r ∷ s ∷ t ∷ length (signed i) ∷ (little_first 8 more (omega arith) o i ++ flat_map signature_bytes (signed i)))
     ∙ (λ i. r ∷ s ∷ t ∷ length-signatures c (drop 8 more) i ∷ (take 8 more ++ signatures_again c (drop 8 more) rest (Octets-drop 8 more o) i)) ∙ ap (λ bs. r ∷ s ∷ t ∷ c ∷ bs) (take-append-drop 8 more)
 
@@ -65,26 +70,24 @@ pub read_none_bytes : (offset : ℕ) (bytes : List ℕ) → record_at offset byt
 unfolding record_at
 read_none_bytes offset bytes e = grind (arith, nat_tests)
 
-sized_signatures : (k : ℕ) (bytes : List ℕ) → length bytes ≡ 9 * k → Octets bytes → AllByRecursion (λ s. (s.signer < 256) × (s.tag < 2 ^ 64)) (signatures_from k bytes)
+sized_signatures : (k : ℕ) (bytes : List ℕ) → length bytes ≡ 9 * k → Octets bytes → AllByRecursion SizedSignature (signatures_from k bytes)
 sized_signatures zero bytes h o = tt
 sized_signatures (suc k) bytes h o =
     let tag = first_below 8 (drop 1 bytes) (Octets-drop 1 bytes o) in
     let rest : length (drop 9 bytes) ≡ 9 * k = simp length-drop (omega arith) in
     ((octet_at bytes 0 (omega arith) o, tag), sized_signatures k (drop 9 bytes) rest (Octets-drop 9 bytes o))
 
-sized_body : (body : List ℕ) → Octets body → (12 ≤ length body) × (get_or body 3 0 ≤ 16) × (length body ≡ 12 + 9 * get_or body 3 0) → Sized (message_from body)
+sized_body : (body : List ℕ) → Octets body → Formed body → Sized (message_from body)
 unfolding message_from
-sized_body body o (long, few, size) =
+sized_body body o w =
     let c = get_or body 3 0 in
-    let all : min c 16 ≡ c = omega arith in
     let rest : length (drop 12 body) ≡ 9 * c = simp length-drop (omega arith) in
-    let signed : chain (message_from body) ≡ signatures_from c (drop 12 body) = ap (λ k. take k (signatures_from c (drop 12 body) ++ replicate (16 - c) blank)) all ∙ take_at _ _ c (length-signatures c _) in
     record {
       round = octet_at body 0 (omega arith) o;
       sender = octet_at body 1 (omega arith) o;
       receiver = octet_at body 2 (omega arith) o;
       value = first_below 8 (drop 4 body) (Octets-drop 4 body o);
-      signed = subst (AllByRecursion (λ s. (s.signer < 256) × (s.tag < 2 ^ 64))) (sym signed) (sized_signatures c (drop 12 body) rest (Octets-drop 12 body o));
+      signed = subst (AllByRecursion SizedSignature) (sym (chain_from body w.few)) (sized_signatures c (drop 12 body) rest (Octets-drop 12 body o));
     }
 
 -- the bytes begin with the item, written, and what is left comes after it
@@ -109,7 +112,7 @@ pub begins_message : (offset : ℕ) (bytes body : List ℕ) → Octets bytes →
 begins_message offset bytes body o e w =
     let (lies, kind, same) = read_message_bytes offset bytes body e in
     let octets = subst Octets same (Octets-take (record_length bytes - 4) (drop 4 bytes) (Octets-drop 4 bytes o)) in
-    let parts = well_formed_parts body w in
+    let parts = formed body w in
     let split : bytes ≡ message_bytes (message_from body) ++ drop (record_length bytes) bytes =
     sym (record_again bytes o lies) ∙ (λ i. record_bytes (kind i) (same i) ++ drop (record_length bytes) bytes) ∙ ap (λ b. record_bytes 1 b ++ drop (record_length bytes) bytes) (sym (body_again body octets parts)) in
     record { writable = sized_body body octets parts; split = split; size = size_of bytes (message (message_from body)) lies split }

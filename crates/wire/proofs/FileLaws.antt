@@ -7,9 +7,9 @@ use Rattle.wire.specs.declared.fault.Layer.TheVariants as ALayer
 use Rattle.wire.specs.declared.fault.MessageFault.{MessageFault}
 use Rattle.wire.specs.declared.fault.Refusal.{Refusal}
 use Rattle.wire.specs.declared.message.Message.{Message}
-use Rattle.wire.specs.Faults.{refused, message_refusal}
+use Rattle.wire.specs.Faults.{refused}
 use Rattle.wire.specs.Format.{Item, message, comment}
-use Rattle.wire.specs.Reading.{record_at, record_length, parsed, entry_at, onward, with_first, messages_within, messages_at, records_left, counted, filled, passed, entry_answer, content, room, reading, taken}
+use Rattle.wire.specs.Reading.{record_at, record_length, parsed, entry_at, onward, with_first, messages_within, messages_at, messages_left, records_left, next_entry, counted, filled, passed, entry_answer, content, room, reading}
 use Rattle.wire.specs.declared.item.Item.{Item as Held}
 use Rattle.wire.specs.declared.records.Records.{Records}
 use Rattle.wire.proofs.RecordLaws.{record_none}
@@ -77,23 +77,20 @@ module _ (room offset : ℕ) (bytes : List ℕ) where
   at_message m e some = step ∙ ap (λ r. onward room offset r after) e ∙ cond-false _ _ _ (ne_eqb room 0 (λ z. omega arith))
 
 -- what is known of a reader of entries that has given an item
-module _ (s s' : Records) (r : Result (Option (Held Message)) MessageFault) (item : Held Message) (was : r ≡ Ok (Some item)) (answer : entry_answer r ≡ entry_at s.offset (records_left s)) (on : s'.offset ≡ passed s.offset (records_left s) r) (same : s'.file.now ≡ s.file.now) where
-  read : entry_at s.offset (records_left s) ≡ Ok (Some (content (λ m. m) item))
+module _ (s s' : Records) (r : Result (Option (Held Message)) MessageFault) (item : Held Message) (was : r ≡ Ok (Some item)) (answer : entry_answer r ≡ next_entry s) (on : s'.offset ≡ passed s r) (same : s'.file.now ≡ s.file.now) where
+  read : next_entry s ≡ Ok (Some (content (λ m. m) item))
   read = sym answer ∙ ap entry_answer was
 
   left_after : drop (record_length (records_left s)) (records_left s) ≡ records_left s'
-  left_after = drop-drop (record_length (records_left s)) s.offset s.file.now ∙ (λ i. drop (sym (on ∙ ap (passed s.offset (records_left s)) was) i) (sym same i))
+  left_after = drop-drop (record_length (records_left s)) s.offset s.file.now ∙ (λ i. drop (sym (on ∙ ap (passed s) was) i) (sym same i))
 
   pub falls : length (records_left s') < length (records_left s)
   falls = let (least, most) = entry_lies s.offset (records_left s) _ read in omega (arith, length-drop (record_length (records_left s)) (records_left s), ap length left_after)
 
-  pub past : (places : ℕ) → messages_at places s.offset (records_left s) ≡ onward places s.offset (Ok (Some (content (λ m. m) item))) (λ left. messages_at left s'.offset (records_left s'))
+  pub past : (places : ℕ) → messages_left places s ≡ onward places s.offset (Ok (Some (content (λ m. m) item))) (λ left. messages_left left s')
   past places =
       step places s.offset (records_left s) ∙ ap (λ e. onward places s.offset e (after places s.offset (records_left s))) read
-      ∙ onward_same places s.offset (Ok (Some (content (λ m. m) item))) _ _ (λ _ _ left i. messages_at left (sym (on ∙ ap (passed s.offset (records_left s)) was) i) (left_after i))
-
-pub taken_refused : (places : ℕ) (r : Result (Option (ℕ × Message)) MessageFault) (fault : MessageFault) (rest : ℕ → Result (List Message) Refusal) → r ≡ Err fault → Err (message_refusal fault) ≡ taken places r rest
-taken_refused places r fault rest is = sym (ap (λ r. taken places r rest) is)
+      ∙ onward_same places s.offset (Ok (Some (content (λ m. m) item))) _ _ (λ _ _ left i. messages_at left (sym (on ∙ ap (passed s) was) i) (left_after i))
 
 pub reading_large : (file : List ℕ) (places : ℕ) → 32768 < length file → reading file places ≡ Err (refused 4 32768 ALayer.File)
 unfolding reading
@@ -102,6 +99,9 @@ reading_large file places h = cond-true _ _ _ (lt-ltb 32768 (length file) h)
 pub reading_small : (file : List ℕ) (places : ℕ) → length file ≤ 32768 → reading file places ≡ messages_at (room places) 0 file
 unfolding reading
 reading_small file places h = cond-false _ _ _ (le-ltb 32768 (length file) h)
+
+pub counted_small : (file : List ℕ) (places most : ℕ) → length file ≤ 32768 → most ≡ room places → counted 0 (messages_at most 0 file) ≡ counted 0 (reading file places)
+counted_small file places most h is = ap (λ n. counted 0 (messages_at n 0 file)) is ∙ sym (ap (counted 0) (reading_small file places h))
 
 -- a count that is refused is a reading that is refused
 pub filled_refused : (table : List Message) (r : Result (List Message) Refusal) (refusal : Refusal) → Err refusal ≡ counted 0 r → filled table r ≡ table

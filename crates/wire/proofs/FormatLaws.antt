@@ -1,5 +1,5 @@
 -- What is written is read back, record by record.
-use Rattle.std.proofs.Common.{◌≡◌, ℕ, ◌+◌, ◌-◌, ◌*◌, ◌^◌, ◌<◌, ◌≤◌, min, true, List, [], ◌∷◌, ◌++◌, length, take, drop, replicate, Some, Ok, sym, refl, ap, ◌∙◌, arith}
+use Rattle.std.proofs.Common.{◌≡◌, ℕ, ◌+◌, ◌-◌, ◌*◌, ◌<◌, ◌≤◌, true, List, [], ◌∷◌, ◌++◌, length, take, drop, Some, Ok, sym, refl, ap, ◌∙◌, arith}
 use Rattle.std.specs.List.{flat_map, AllByRecursion}
 use Rattle.std.proofs.lemmas.List.{length-append, length-take, take_at, drop_at}
 use Rattle.std.proofs.lemmas.Bool.{and_from, le-leb, eq-eqb, cond-true}
@@ -7,11 +7,11 @@ use Rattle.wire.specs.declared.message.Signature.{Signature}
 use Rattle.wire.specs.declared.message.Message.{Message}
 use Rattle.little_endian.specs.Bytes.{little, number}
 use Rattle.wire.specs.Format.{message, comment, meaning, chain, signature_bytes, body_bytes, record_bytes, message_bytes, comment_bytes}
-use Rattle.wire.specs.Reading.{record_length, record_kind, record_body, parsed, entry_at, signatures_from, blank, message_from, well_formed}
-use Rattle.wire.specs.Laws.{Sized}
+use Rattle.wire.specs.Reading.{record_length, record_kind, record_body, parsed, entry_at, signatures_from, message_from, well_formed}
+use Rattle.wire.specs.Laws.{SizedSignature, Sized}
 use Rattle.little_endian.proofs.ByteLaws.{number-little}
 use Rattle.wire.proofs.RecordLaws.{record_message, record_comment}
-use Rattle.wire.proofs.SignatureLaws.{length-signatures}
+use Rattle.wire.proofs.SignatureLaws.{chain_from}
 use Rattle.wire.proofs.WritingLaws.{length-signature_bytes}
 
 -- a written record, whatever follows it
@@ -46,7 +46,7 @@ read_comment offset text rest h =
     ap (parsed offset) (at ∙ ap (λ b. Ok (Some (comment b))) (read_body 2 text rest fits))
 
 -- the signatures of a chain
-pub read_signatures : (ss : List Signature) → AllByRecursion (λ s. (s.signer < 256) × (s.tag < 2 ^ 64)) ss → signatures_from (length ss) (flat_map signature_bytes ss) ≡ ss
+pub read_signatures : (ss : List Signature) → AllByRecursion SizedSignature ss → signatures_from (length ss) (flat_map signature_bytes ss) ≡ ss
 read_signatures [] h = refl
 read_signatures (s ∷ ss) (h, hs) =
     let tag : number (little 8 s.tag) ≡ s.tag = number-little 8 s.tag h.1 in
@@ -67,9 +67,7 @@ read_back m = message_from (body_bytes m)
 pub read_back_means : (m : Message) → Sized m → meaning (read_back m) ≡ meaning m
 unfolding message_from
 read_back_means m sized =
-    let n = length (chain m) in
-    let few : min n 16 ≡ n = omega (arith, chain_short m) in
-    let signed : chain (read_back m) ≡ chain m = ap (λ k. take k (signatures_from n (flat_map signature_bytes (chain m)) ++ replicate (16 - n) blank)) few ∙ take_at _ _ n (length-signatures n _) ∙ read_signatures (chain m) sized.signed in
+    let signed : chain (read_back m) ≡ chain m = chain_from (body_bytes m) (chain_short m) ∙ read_signatures (chain m) sized.signed in
     λ i. record { round = m.round; sender = m.sender; receiver = m.receiver; value = number-little 8 m.value sized.value i; chain = signed i }
 
 pub read_message : (offset : ℕ) (m : Message) (rest : List ℕ) → entry_at offset (message_bytes m ++ rest) ≡ Ok (Some (message (read_back m)))

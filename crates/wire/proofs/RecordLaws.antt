@@ -30,13 +30,13 @@ module _ (offset : ℕ) (bytes : List ℕ) where
     record_bad_kind one two = grind (arith, nat_tests)
 
 -- the two numbers that a record begins with, taken as pairs of bytes
-pub record Begins (pairs : List (List ℕ)) (bytes : List ℕ) : Type 0 where
+pub record HeaderInPairs (pairs : List (List ℕ)) (bytes : List ℕ) : Type 0 where
   pub length : get_or (get_or pairs 0 []) 0 0 + get_or (get_or pairs 0 []) 1 0 * 256 ≡ record_length bytes
   pub kind : get_or (get_or pairs 1 []) 0 0 + get_or (get_or pairs 1 []) 1 0 * 256 ≡ record_kind bytes
 
-pairs_begin : (n : ℕ) (bytes : List ℕ) → 2 ≤ n → 4 ≤ length bytes → Begins (first_chunks 2 n bytes) bytes
-pairs_begin (suc (suc n)) (a ∷ b ∷ c ∷ d ∷ bytes) h k = record { length = omega arith; kind = omega arith }
-pairs_begin _ _ h k = absurd (omega arith)
+header_in_first_pairs : (n : ℕ) (bytes : List ℕ) → 2 ≤ n → 4 ≤ length bytes → HeaderInPairs (first_chunks 2 n bytes) bytes
+header_in_first_pairs (suc (suc n)) (a ∷ b ∷ c ∷ d ∷ bytes) h k = record { length = omega arith; kind = omega arith }
+header_in_first_pairs _ _ h k = absurd (omega arith)
 
-pub begins : (pairs : List (List ℕ)) (bytes : List ℕ) → pairs ≡ first_chunks 2 (length bytes / 2) bytes → 4 ≤ length bytes → Begins pairs bytes
-begins pairs bytes e h = subst (λ ps. Begins ps bytes) (sym e) (pairs_begin (length bytes / 2) bytes (omega arith) h)
+pub header_in_pairs : (pairs : List (List ℕ)) (bytes : List ℕ) → pairs ≡ first_chunks 2 (length bytes / 2) bytes → 4 ≤ length bytes → HeaderInPairs pairs bytes
+header_in_pairs pairs bytes e h = subst (λ ps. HeaderInPairs ps bytes) (sym e) (header_in_first_pairs (length bytes / 2) bytes (omega arith) h)

@@ -1,17 +1,26 @@
 -- The signatures of a body, one by one.
-use Rattle.std.proofs.Common.{◌≡◌, ℕ, zero, suc, ◌-◌, ◌≤◌, List, [], ◌∷◌, ◌++◌, length, get_or, take, drop, map, replicate, sym, refl, ap, ◌∙◌, arith}
+use Rattle.std.proofs.Common.{◌≡◌, ℕ, zero, suc, ◌-◌, ◌≤◌, min, List, [], ◌∷◌, ◌++◌, length, get_or, take, drop, map, replicate, sym, refl, ap, ◌∙◌, arith}
 use Rattle.std.specs.Array.{IsFromFnResult}
 use Rattle.std.specs.Simd.{first_chunks}
-use Rattle.std.proofs.lemmas.List.{ext_get_or, length-append, length-replicate, take-take}
+use Rattle.std.proofs.lemmas.List.{ext_get_or, length-append, length-replicate, take-take, take_at}
 use denote.Param.Members.{Mut, Called}
 use Rattle.little_endian.specs.Bytes.{number}
 use Rattle.little_endian.proofs.ArrayLaws.{made_from}
 use Rattle.wire.specs.declared.message.Signature.{Signature}
-use Rattle.wire.specs.Reading.{blank, signature_from, signatures_from}
+use Rattle.wire.specs.Format.{chain}
+use Rattle.wire.specs.Reading.{blank, signature_from, signatures_from, message_from}
 
 pub length-signatures : (k : ℕ) (bytes : List ℕ) → length (signatures_from k bytes) ≡ k
 length-signatures zero bytes = refl
 length-signatures (suc k) bytes = ap suc (length-signatures k (drop 9 bytes))
+
+-- the chain of a message that was read
+pub chain_from : (body : List ℕ) → get_or body 3 0 ≤ 16 → chain (message_from body) ≡ signatures_from (get_or body 3 0) (drop 12 body)
+unfolding message_from
+chain_from body few =
+    let n = get_or body 3 0 in
+    let all : min n 16 ≡ n = omega arith in
+    ap (λ k. take k (signatures_from n (drop 12 body) ++ replicate (16 - n) blank)) all ∙ take_at _ _ n (length-signatures n _)
 
 -- a signature takes nine bytes
 signature_of_nine : (bytes : List ℕ) → signature_from bytes ≡ signature_from (take 9 bytes)

@@ -24,8 +24,8 @@ signatures_written d d₁ d₂ ss i place z h room e₁ e₂ next =
     wrote_more d d₁ d₂ 16 (9 * i) place 9 _ _ e₁ e₂ next count refl room
     ∙ (λ j. paste d 16 ((flat_map_more signature_bytes [] (take i ss) (get_or ss i z) ∙ ap (flat_map signature_bytes) (sym (take_more ss i z h))) j) (more j))
 
-pub length-message_bytes : (m : Message) → length (message_bytes m) ≡ 16 + 9 * length (chain m)
-length-message_bytes m = omega (arith, length-signature_bytes (chain m))
+pub length-message_bytes : (m : Message) (cs : List Signature) → cs ≡ chain m → 16 + 9 * length cs ≡ length (message_bytes m)
+length-message_bytes m cs is = omega (arith, length-signature_bytes (chain m), ap length is)
 
 -- the bytes of a message with these signatures, as they are put one after the other
 abbrev laid_out : Message → List Signature → List ℕ

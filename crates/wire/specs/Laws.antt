@@ -5,9 +5,14 @@ use Rattle.std.specs.List.{AllByRecursion}
 use Rattle.wire.specs.declared.fault.FileFault.{FileFault}
 use Rattle.wire.specs.declared.fault.Refusal.{Refusal}
 use Rattle.wire.specs.declared.fault.ShortBuffer.{ShortBuffer}
+use Rattle.wire.specs.declared.message.Signature.{Signature}
 use Rattle.wire.specs.declared.message.Message.{Message}
 use Rattle.wire.specs.Format.{Item, message, comment, chain, meaning, message_bytes, item_bytes, file_bytes}
 use Rattle.wire.specs.Reading.{file_answer, reading}
+
+-- the signer and the tag fit their bytes
+abbrev pub SizedSignature : Signature → Type 0
+SizedSignature s = (s.signer < 256) × (s.tag < 2 ^ 64)
 
 -- each field fits its bytes, as it does in every message that the code can hold
 pub record Sized (m : Message) : Type 0 where
@@ -15,7 +20,7 @@ pub record Sized (m : Message) : Type 0 where
   pub sender : m.sender < 256
   pub receiver : m.receiver < 256
   pub value : m.value < 2 ^ 64
-  pub signed : AllByRecursion (λ s. (s.signer < 256) × (s.tag < 2 ^ 64)) (chain m)
+  pub signed : AllByRecursion SizedSignature (chain m)
 
 -- a record can hold it: its length fits two bytes
 abbrev pub Writable : Item Message → Type 0

@@ -1,6 +1,8 @@
 -- How a message file is read: record by record, in three layers. `bytes` is what is left of the file at an offset.
 use Rattle.std.specs.Prelude.{ℕ, zero, suc, ◌+◌, ◌-◌, ◌*◌, min, Bool, if◌then◌else◌, ◌&&◌, ◌||◌, List, [], ◌∷◌, ◌++◌, length, take, drop, replicate, Some, None, Ok, Err, Option, Result, ◌==◌, nat_le, nat_lt, slice_index}
 use Rattle.std.specs.Borrow.{Bor}
+use Rattle.std.specs.Option.{option_map}
+use Rattle.std.specs.Result.{result_map_both}
 use Rattle.wire.specs.declared.fault.Layer.TheVariants as ALayer
 use Rattle.wire.specs.declared.fault.Refusal.{Refusal}
 use Rattle.wire.specs.declared.fault.RecordFault.{RecordFault}
@@ -46,9 +48,7 @@ content f (AnItem.Comment text) = comment text.now
 
 -- what the answer of a reader says, where `told` says it of a fault
 abbrev pub item_answer : {M N F : Type 0} → (M → N) → (F → Refusal) → Result (Option (Held M)) F → Result (Option (Item N)) Refusal
-item_answer f told (Ok None) = Ok None
-item_answer f told (Ok (Some item)) = Ok (Some (content f item))
-item_answer f told (Err fault) = Err (told fault)
+item_answer f told r = result_map_both (option_map (content f)) told r
 
 abbrev pub record_answer : Result (Option (Held (Bor (List ℕ)))) RecordFault → Result (Option (Item (List ℕ))) Refusal
 record_answer = item_answer (λ body. body.now) record_refusal
@@ -93,21 +93,27 @@ entry_at offset bytes = parsed offset (record_at offset bytes)
 abbrev pub entry_answer : Result (Option (Held Message)) MessageFault → Result (Option (Item Message)) Refusal
 entry_answer = item_answer (λ m. m) message_refusal
 
--- where a reader stands after an answer: past the record, if one was read
-abbrev pub passed : {X R : Type 0} → ℕ → List ℕ → Result (Option X) R → ℕ
-passed offset bytes (Ok None) = offset
-passed offset bytes (Ok (Some x)) = offset + record_length bytes
-passed offset bytes (Err refusal) = offset
-
 -- what is left for a reader
 abbrev pub records_left : Records → List ℕ
 records_left s = drop s.offset s.file.now
 
+-- what a reader is to give next
+abbrev pub next_record : Records → Result (Option (Item (List ℕ))) Refusal
+next_record s = record_at s.offset (records_left s)
+
+abbrev pub next_entry : Records → Result (Option (Item Message)) Refusal
+next_entry s = entry_at s.offset (records_left s)
+
+-- where a reader stands after an answer: past the record, if one was read
+abbrev pub passed : {X R : Type 0} → Records → Result (Option X) R → ℕ
+passed s (Ok None) = s.offset
+passed s (Ok (Some x)) = s.offset + record_length (records_left s)
+passed s (Err refusal) = s.offset
+
 -- THE FILE LAYER
 
 abbrev pub with_first : Message → Result (List Message) Refusal → Result (List Message) Refusal
-with_first m (Ok ms) = Ok (m ∷ ms)
-with_first m (Err refusal) = Err refusal
+with_first m r = result_map_both (λ ms. m ∷ ms) (λ refusal. refusal) r
 
 -- one entry, and then the rest of the file; a message for which no place is left is refused
 abbrev pub onward : ℕ → ℕ → Result (Option (Item Message)) Refusal → (ℕ → Result (List Message) Refusal) → Result (List Message) Refusal
@@ -132,6 +138,10 @@ messages_within (suc turns) places offset bytes =
 abbrev pub messages_at : ℕ → ℕ → List ℕ → Result (List Message) Refusal
 messages_at places offset bytes = messages_within (length bytes) places offset bytes
 
+-- the messages that are left for a reader
+abbrev pub messages_left : ℕ → Records → Result (List Message) Refusal
+messages_left places s = messages_at places s.offset (records_left s)
+
 -- how many messages are taken into a table of so many places
 abbrev pub room : ℕ → ℕ
 room places = min places 128
@@ -142,12 +152,10 @@ reading file places = if nat_lt 32768 (length file) then Err (refused 4 32768 AL
 
 -- what the file layer's answer says: how many messages were read
 abbrev pub file_answer : Result ℕ FileFault → Result ℕ Refusal
-file_answer (Ok count) = Ok count
-file_answer (Err fault) = Err (file_refusal fault)
+file_answer r = result_map_both (λ count. count) file_refusal r
 
 abbrev pub counted : ℕ → Result (List Message) Refusal → Result ℕ Refusal
-counted before (Ok ms) = Ok (before + length ms)
-counted before (Err refusal) = Err refusal
+counted before r = result_map_both (λ ms. before + length ms) (λ refusal. refusal) r
 
 -- the table afterwards: the messages first, the later places as they were; all of it as it was on a refusal
 abbrev pub filled : List Message → Result (List Message) Refusal → List Message

@@ -1,5 +1,6 @@
 -- How a message is written into a buffer.
 use Rattle.std.specs.Prelude.{ℕ, ◌≤◌, if◌then◌else◌, List, ◌++◌, length, drop, Ok, Err, Result, nat_le}
+use Rattle.std.specs.Result.{result_map_both}
 use Rattle.std.proofs.Common.{arith}
 use Rattle.wire.specs.declared.message.Message.{Message}
 use Rattle.wire.specs.declared.fault.ShortBuffer.{ShortBuffer}
@@ -17,8 +18,7 @@ pub shortage_number : (s : ShortBuffer) → (1 ≤ (shortage s).number) × ((sho
 shortage_number s = (omega arith, omega arith)
 
 abbrev pub write_answer : Result ℕ ShortBuffer → Result ℕ Shortage
-write_answer (Ok n) = Ok n
-write_answer (Err s) = Err (shortage s)
+write_answer r = result_map_both (λ n. n) shortage r
 
 -- the message's length, or a refusal where the buffer is shorter
 abbrev pub writing : Message → List ℕ → Result ℕ Shortage

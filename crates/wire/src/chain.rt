@@ -4,7 +4,7 @@ ghost use Rattle.wire.specs.Format.{chain};
 use crate::message::{MAX_SIGNATURES, Message, Signature};
 
 impl Message {
-    // The signatures that mean something.
+    /// The signatures that mean something.
     pub fn chain(&self) -> &[Signature]
         ensures { result.now ≡ chain self.now }
     {

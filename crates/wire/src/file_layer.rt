@@ -6,9 +6,10 @@ use crate::entries::Entries;
 use crate::fault::FileFault;
 use crate::message::Message;
 
-// The largest file, in bytes, and the most messages that one may have.
+/// The largest file, in bytes.
 pub const MAX_FILE: usize = 32_768;
 
+/// The most messages that a file may have.
 pub const MAX_MESSAGES: usize = 128;
 
 // How many messages the file has, once each record of it was looked at; at most `most`.
@@ -44,9 +45,9 @@ fn fill(file: &[u8], table: &mut [Message]) -> Result<(), FileFault>
     Ok(())
 }
 
-// Reads the messages of a file into the table's first places, and answers how many there are.
-// The whole file is looked at before the first write, so a refusal leaves the table as it was.
-// The table is the caller's, since memory is fixed.
+/// Reads the messages of a file into the table's first places, and answers how many there are.
+/// The whole file is looked at before the first write, so a refusal leaves the table as it was.
+/// The table is the caller's, since memory is fixed.
 pub fn read_messages(file: &[u8], table: &mut [Message]) -> Result<usize, FileFault>
     ensures answer { file_answer result ≡ counted 0 (reading file.now (length table.old)) }
     ensures table { table.new ≡ filled table.old (reading file.now (length table.old)) }

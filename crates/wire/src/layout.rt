@@ -1,11 +1,13 @@
-// How many bytes the parts of a record take: its length and kind,
+// How many bytes the parts of a record take.
+
+// A record's length and its kind.
 pub(crate) const HEADER: usize = 4;
 
-// what stands before the signatures in the body of a message,
-pub(crate) const BODY: usize = 12;
+// What stands before the signatures in the body of a message.
+pub(crate) const BODY_HEAD: usize = 12;
 
-// each signature,
+// One signature.
 pub(crate) const SIGNATURE: usize = 9;
 
-// and a message's whole record without them.
-pub(crate) const UNSIGNED: usize = HEADER + BODY;
+// A message's whole record without its signatures.
+pub(crate) const UNSIGNED: usize = HEADER + BODY_HEAD;

@@ -22,4 +22,5 @@ pub use file_layer::{MAX_FILE, MAX_MESSAGES, read_messages};
 pub use item::{Entry, Item, Record};
 pub use message::{MAX_SIGNATURES, Message, Signature};
 pub use records::Records;
+pub use refusals::Numbered;
 pub use writing::write_message;

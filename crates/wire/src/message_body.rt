@@ -1,7 +1,7 @@
 ghost use Rattle.std.specs.Prelude.{◌≡◌, ◌-◌, true, false, ◌++◌, drop, map, replicate, slice_index, slice_index_or, MatchOption};
 ghost use Rattle.wire.specs.Reading.{blank, signature_from, signatures_from, message_from, well_formed};
 
-use crate::layout::{BODY, SIGNATURE};
+use crate::layout::{BODY_HEAD, SIGNATURE};
 use crate::message::{MAX_SIGNATURES, Message, Signature};
 use little_endian::read_u64;
 use std::array;
@@ -18,12 +18,13 @@ impl<'a> MessageBody<'a> {
         ensures { MatchOption result (well_formed bytes.now ≡ false) (λ body. body.bytes.now ≡ bytes.now) }
     {
         let count = usize::from(*bytes.get(3)?);
-        if count > MAX_SIGNATURES || bytes.len() != BODY + SIGNATURE * count {
+        if count > MAX_SIGNATURES || bytes.len() != BODY_HEAD + SIGNATURE * count {
             return None;
         }
         Some(MessageBody { bytes })
     }
 
+    // The message that the body writes. A public impl of From would serve a private need.
     pub(crate) fn message(self) -> Message
         ensures { result ≡ message_from self.entry.bytes.now }
     {
@@ -41,7 +42,7 @@ impl<'a> MessageBody<'a> {
     fn signatures(self) -> [Signature; MAX_SIGNATURES]
         ensures { let count = slice_index self.entry.bytes.now 3 in result ≡ signatures_from count (drop 12 self.entry.bytes.now) ++ replicate (16 - count) blank }
     {
-        let (chunks, _) = self.bytes[BODY..].as_chunks::<SIGNATURE>();
+        let (chunks, _) = self.bytes[BODY_HEAD..].as_chunks::<SIGNATURE>();
         array::from_fn(|place| signature_or_blank(chunks, place))
     }
 }
@@ -53,6 +54,7 @@ fn signature_or_blank(chunks: &[[u8; SIGNATURE]], place: usize) -> Signature
     chunks.get(place).map(signature_in).unwrap_or_default()
 }
 
+// The signature that these bytes write. A public impl of From would serve a private need.
 fn signature_in(bytes: &[u8; SIGNATURE]) -> Signature
     ensures { result ≡ signature_from bytes.now }
 {

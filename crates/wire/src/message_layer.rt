@@ -1,5 +1,5 @@
 ghost use Rattle.std.specs.Prelude.{◌≡◌, ℕ};
-ghost use Rattle.wire.specs.Reading.{entry_answer, entry_at, records_left, passed, messages_at, taken};
+ghost use Rattle.wire.specs.Reading.{entry_answer, next_entry, passed, messages_left, taken};
 
 use crate::entries::Entries;
 use crate::fault::MessageFault;
@@ -24,10 +24,10 @@ impl<'a> Entries<'a> {
         self.records.offset()
     }
 
-    // The next record with its message read, or none where no byte is left.
+    /// The next record with its message read, or none where no byte is left.
     pub fn next(&mut self) -> Result<Option<Entry<'a>>, MessageFault>
-        ensures answer { entry_answer result ≡ entry_at self.old.records.offset (records_left self.old.records) }
-        ensures moves_on { self.new.records.offset ≡ passed self.old.records.offset (records_left self.old.records) result }
+        ensures answer { entry_answer result ≡ next_entry self.old.records }
+        ensures moves_on { self.new.records.offset ≡ passed self.old.records result }
         ensures same_file { self.new.records.file.now ≡ self.old.records.file.now }
     {
         // A copy goes ahead, since a reader that refuses stays where it is.
@@ -36,11 +36,9 @@ impl<'a> Entries<'a> {
             None => return Ok(None),
             Some(Record::Comment(text)) => Entry::Comment(text),
             Some(Record::Message(body)) => {
-                let Some(body) = MessageBody::new(body) else {
-                    return Err(MessageFault::Length {
-                        offset: self.records.offset,
-                    });
-                };
+                let body = MessageBody::new(body).ok_or(MessageFault::Length {
+                    offset: self.records.offset,
+                })?;
                 Entry::Message(body.message())
             }
         };
@@ -50,7 +48,7 @@ impl<'a> Entries<'a> {
 
     // The next message with the offset of its record, past the comments before it.
     pub(crate) fn next_message(&mut self) -> Result<Option<(usize, Message)>, MessageFault>
-        ensures { (places : ℕ) → messages_at places self.old.records.offset (records_left self.old.records) ≡ taken places result (λ left. messages_at left self.new.records.offset (records_left self.new.records)) }
+        ensures { (places : ℕ) → messages_left places self.old.records ≡ taken places result (λ left. messages_left left self.new.records) }
     {
         loop {
             let offset = self.offset();

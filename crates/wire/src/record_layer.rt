@@ -1,5 +1,5 @@
 ghost use Rattle.std.specs.Prelude.{◌≡◌};
-ghost use Rattle.wire.specs.Reading.{record_answer, record_at, records_left, passed};
+ghost use Rattle.wire.specs.Reading.{record_answer, next_record, passed};
 
 use crate::fault::RecordFault;
 use crate::item::Record;
@@ -21,10 +21,10 @@ impl<'a> Records<'a> {
         self.offset
     }
 
-    // The next record, or none where no byte is left. A reader that refuses stays where it is.
+    /// The next record, or none where no byte is left. A reader that refuses stays where it is.
     pub fn next(&mut self) -> Result<Option<Record<'a>>, RecordFault>
-        ensures answer { record_answer result ≡ record_at self.old.offset (records_left self.old) }
-        ensures moves_on { self.new.offset ≡ passed self.old.offset (records_left self.old) result }
+        ensures answer { record_answer result ≡ next_record self.old }
+        ensures moves_on { self.new.offset ≡ passed self.old result }
         ensures same_file { self.new.file.now ≡ self.old.file.now }
     {
         let file = self.file;
@@ -42,6 +42,7 @@ impl<'a> Records<'a> {
             return Err(RecordFault::Length { offset });
         }
         let body = &left[HEADER..length];
+        // Not map_err and a question mark: the closure makes the proof longer and the code no plainer.
         let Ok(kind) = Kind::try_from(u16::from_le_bytes(*kind)) else {
             return Err(RecordFault::Kind { offset });
         };

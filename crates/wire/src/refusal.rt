@@ -62,9 +62,7 @@ impl fmt::Display for Refusal {
 impl Numbered for RecordFault {
     ghost number = { λ fault. (record_refusal fault).number };
 
-    ghost from_one = { λ fault. (record_number fault).0 };
-
-    ghost to_fifteen = { λ fault. (record_number fault).1 };
+    ghost in_range = { record_number };
 
     fn number(&self) -> u8 {
         match self {
@@ -77,9 +75,7 @@ impl Numbered for RecordFault {
 impl Numbered for MessageFault {
     ghost number = { λ fault. (message_refusal fault).number };
 
-    ghost from_one = { λ fault. (message_number fault).0 };
-
-    ghost to_fifteen = { λ fault. (message_number fault).1 };
+    ghost in_range = { message_number };
 
     fn number(&self) -> u8 {
         match self {
@@ -92,9 +88,7 @@ impl Numbered for MessageFault {
 impl Numbered for FileFault {
     ghost number = { λ fault. (file_refusal fault).number };
 
-    ghost from_one = { λ fault. (file_number fault).0 };
-
-    ghost to_fifteen = { λ fault. (file_number fault).1 };
+    ghost in_range = { file_number };
 
     fn number(&self) -> u8 {
         match self {
@@ -107,9 +101,7 @@ impl Numbered for FileFault {
 impl Numbered for ShortBuffer {
     ghost number = { λ short. (shortage short).number };
 
-    ghost from_one = { λ short. (shortage_number short).0 };
-
-    ghost to_fifteen = { λ short. (shortage_number short).1 };
+    ghost in_range = { shortage_number };
 
     fn number(&self) -> u8 {
         5

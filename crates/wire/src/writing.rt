@@ -11,6 +11,7 @@ use crate::layout::{SIGNATURE, UNSIGNED};
 use crate::message::{Message, Signature};
 
 // Puts bytes into a buffer, one after the other.
+// It is no writer of std: std's Write for a slice answers errors, which cannot happen here.
 #[derive(Drop)]
 struct Writer<'a> {
     buffer: &'a mut [u8],
@@ -40,7 +41,7 @@ impl Writer<'_> {
     }
 }
 
-// Writes one message at the buffer's start, and answers how many bytes it took. The buffer is the caller's, since memory is fixed.
+/// Writes one message at the buffer's start, and answers how many bytes it took. The buffer is the caller's, since memory is fixed.
 pub fn write_message(message: &Message, buffer: &mut [u8]) -> Result<usize, ShortBuffer>
     ensures answer { write_answer result ≡ writing message.now buffer.old }
     ensures buffer { buffer.new ≡ written message.now buffer.old }

@@ -1,40 +1,43 @@
-use crate::samples::{same, tells};
-use refusals::Numbered;
+use crate::samples::same;
 use std::test::Fail;
-use wire::{Entries, Entry, FileFault, Layer, Message, Record, Records, Refusal};
+use wire::{
+    Entries, Entry, FileFault, Layer, Message, MessageFault, Numbered, Record, RecordFault,
+    Records, Refusal,
+};
 
 // A comment, a message without its body, a kind that is unknown.
 const FILE: [u8; 14] = [6, 0, 2, 0, 7, 8, 4, 0, 1, 0, 4, 0, 3, 0];
 
+// What the comment holds.
+const TEXT: &[u8] = &[7, 8];
+
+// What the message holds.
+const BODY: &[u8] = &[];
+
 #[test]
-fn records_one_after_the_other(rt: HostRuntime) -> Result<(), Fail> {
+fn records_one_after_the_other(rt: HostRuntime) {
     let file = FILE;
     let mut records = Records::new(&file);
     assert_eq!(rt; records.offset(), 0);
-    match records.next() {
-        Ok(Some(Record::Comment(text))) => assert!(rt;
-            text.len() == 2 && text[0] == 7 && text[1] == 8
-        ),
-        _ => return Err(Fail::new("no comment")),
-    }
+    assert_eq!(rt; records.next(), Ok(Some(Record::Comment(TEXT))));
     assert_eq!(rt; records.offset(), 6);
-    match records.next() {
-        Ok(Some(Record::Message(body))) => assert_eq!(rt; body.len(), 0),
-        _ => return Err(Fail::new("no message")),
-    }
+    assert_eq!(rt; records.next(), Ok(Some(Record::Message(BODY))));
     assert_eq!(rt; records.offset(), 10);
     // a reader that refuses stays where it is
+    let fault = RecordFault::Kind { offset: 10 };
+    assert_eq!(rt; fault.number(), 2);
     for _ in 0..2 {
-        match records.next() {
-            Ok(_) => return Err(Fail::new("a record of kind 3")),
-            Err(fault) => {
-                assert_eq!(rt; fault.number(), 2);
-                tells(&rt, Refusal::from(fault), 2, 10, Layer::Record);
-            }
-        }
+        assert_eq!(rt; records.next(), Err(fault));
         assert_eq!(rt; records.offset(), 10);
     }
-    Ok(())
+    assert_eq!(rt;
+        Refusal::from(fault),
+        Refusal {
+            number: 2,
+            offset: 10,
+            layer: Layer::Record,
+        }
+    );
 }
 
 #[test]
@@ -43,22 +46,24 @@ fn entries_stop_at_the_first_fault(rt: HostRuntime) -> Result<(), Fail> {
     let mut entries = Entries::new(&file);
     assert_eq!(rt; entries.offset(), 0);
     match entries.next() {
-        Ok(Some(Entry::Comment(text))) => assert!(rt;
-            text.len() == 2 && text[0] == 7 && text[1] == 8
-        ),
+        Ok(Some(Entry::Comment(text))) => assert_eq!(rt; text, TEXT),
         _ => return Err(Fail::new("no comment")),
     }
+    let fault = MessageFault::Length { offset: 6 };
+    assert_eq!(rt; fault.number(), 3);
     for _ in 0..2 {
         assert_eq!(rt; entries.offset(), 6);
-        match entries.next() {
-            Ok(_) => return Err(Fail::new("a message without its body")),
-            Err(fault) => {
-                assert_eq!(rt; fault.number(), 3);
-                tells(&rt, Refusal::from(fault), 3, 6, Layer::Message);
-            }
-        }
+        assert_eq!(rt; entries.next().err(), Some(fault));
     }
     assert_eq!(rt; entries.offset(), 6);
+    assert_eq!(rt;
+        Refusal::from(fault),
+        Refusal {
+            number: 3,
+            offset: 6,
+            layer: Layer::Message,
+        }
+    );
     Ok(())
 }
 

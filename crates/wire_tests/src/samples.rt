@@ -1,5 +1,4 @@
 use std::process::Abort;
-use std::test::Fail;
 use wire::{Layer, MAX_SIGNATURES, Message, Refusal, Signature, read_messages};
 
 // What a table holds before it is read into.
@@ -61,30 +60,8 @@ pub(crate) fn unchanged(rt: &impl Abort, table: &[Message]) {
     }
 }
 
-pub(crate) fn reads(
-    rt: &impl Abort,
-    file: &[u8],
-    table: &mut [Message],
-    count: usize,
-) -> Result<(), Fail> {
-    match read_messages(file, table) {
-        Ok(read) => {
-            assert_eq!(rt; read, count);
-            Ok(())
-        },
-        Err(_) => Err(Fail::new("the file was refused")),
-    }
-}
-
-pub(crate) fn tells(rt: &impl Abort, refusal: Refusal, number: u8, offset: usize, layer: Layer) {
-    assert_eq!(rt;
-        refusal,
-        Refusal {
-            number,
-            offset,
-            layer,
-        }
-    );
+pub(crate) fn reads(rt: &impl Abort, file: &[u8], table: &mut [Message], count: usize) {
+    assert_eq!(rt; read_messages(file, table), Ok(count));
 }
 
 // The table is to be as it was.
@@ -95,13 +72,16 @@ pub(crate) fn refuses(
     number: u8,
     offset: usize,
     layer: Layer,
-) -> Result<(), Fail> {
-    match read_messages(file, table) {
-        Ok(_) => return Err(Fail::new("the file was read")),
-        Err(fault) => tells(rt, Refusal::from(fault), number, offset, layer),
-    }
+) {
+    assert_eq!(rt;
+        read_messages(file, table).map_err(Refusal::from),
+        Err(Refusal {
+            number,
+            offset,
+            layer,
+        })
+    );
     unchanged(rt, table);
-    Ok(())
 }
 
 // Makes a row of messages with no signatures of a file of zeros; their rounds count them.

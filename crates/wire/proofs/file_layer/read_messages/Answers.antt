@@ -1,8 +1,8 @@
 use Rattle.std.proofs.Common.{◌≡◌, length, sym, ap, ◌∙◌, arith}
 use Rattle.std.proofs.lemmas.Result.{err_from_is_err_and}
 use Rattle.little_endian.proofs.ByteLaws.{octets}
-use Rattle.wire.specs.Reading.{reading, messages_at, room, counted, filled, file_answer}
-use Rattle.wire.proofs.FileLaws.{reading_large, reading_small, filled_refused}
+use Rattle.wire.specs.Reading.{reading, counted, filled, file_answer}
+use Rattle.wire.proofs.FileLaws.{reading_large, reading_small, counted_small, filled_refused}
 use Rattle.wire.proofs.WholeFileLaws.{lawful}
 use Rattle.wire.proofs.file_layer.read_messages.Goals as goal
 
@@ -20,9 +20,7 @@ returns-in_err-count c =
     let p = err_from_is_err_and c.from_residual.result c.from_residual.ensures.1 in
     let file = c.args.file.now in
     let table = c.args.table.now in
-    let most : c.min.result ≡ room (length table) = omega (arith, c.min.ensures) in
-    let small = reading_small file (length table) c.if-file-gt-MAX_FILE.false in
-    let same = c.in_err-count.ensures ∙ ap (λ n. counted 0 (messages_at n 0 file)) most ∙ sym (ap (counted 0) small) in
+    let same = c.in_err-count.ensures ∙ counted_small file (length table) c.min.result c.if-file-gt-MAX_FILE.false (omega (arith, c.min.ensures)) in
     let told : file_answer c.from_residual.result ≡ counted 0 (reading file (length table)) = rw (p.1, p.2) same in
     let left = sym (filled_refused table (reading file (length table)) _ same) in
     lawful file table _ _ told left (octets file c.type_inv.file)
@@ -31,8 +29,6 @@ pub returns : goal.returns
 returns c =
     let file = c.args.file.now in
     let table = c.args.table.now in
-    let most : c.min.result ≡ room (length table) = omega (arith, c.min.ensures) in
-    let small = reading_small file (length table) c.if-file-gt-MAX_FILE.false in
-    let told = c.in_ok-count.ensures ∙ ap (λ n. counted 0 (messages_at n 0 file)) most ∙ sym (ap (counted 0) small) in
-    let left = c.fill.ensures.table ∙ sym (ap (filled table) small) in
+    let told = c.in_ok-count.ensures ∙ counted_small file (length table) c.min.result c.if-file-gt-MAX_FILE.false (omega (arith, c.min.ensures)) in
+    let left = c.fill.ensures.table ∙ sym (ap (filled table) (reading_small file (length table) c.if-file-gt-MAX_FILE.false)) in
     lawful file table _ _ told left (octets file c.type_inv.file)

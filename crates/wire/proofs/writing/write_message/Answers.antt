@@ -15,7 +15,7 @@ use Rattle.wire.proofs.writing.write_message.Goals.{After-put-4}
 pub returns-then-buffer-length : goal.returns-then-buffer-length
 returns-then-buffer-length c =
     let m = c.args.message.now in
-    let size : 16 + 9 * length c.chain-chain.result.now ≡ length (message_bytes m) = ap (λ cs. 16 + 9 * length cs) c.chain-chain.ensures ∙ sym (length-message_bytes m) in
+    let size = length-message_bytes m c.chain-chain.result.now c.chain-chain.ensures in
     let short = lt-leb (length (message_bytes m)) (length c.args.buffer.now) (omega arith) in
     let told = ap (λ n. Err (record { number = 5; needed = n })) size ∙ sym (cond-false _ _ _ short) in
     let left = sym (cond-false _ _ _ short) in
@@ -43,7 +43,7 @@ returns c =
     let d = c.args.buffer.now in
     let cs = c.chain-chain.result.now in
     let w = c.loop-signature.invariant in
-    let size : 16 + 9 * length cs ≡ length (message_bytes m) = ap (λ cs. 16 + 9 * length cs) c.chain-chain.ensures ∙ sym (length-message_bytes m) in
+    let size = length-message_bytes m cs c.chain-chain.ensures in
     let fits = le-leb (length (message_bytes m)) (length d) (omega arith) in
     let told : Ok (16 + 9 * length cs) ≡ writing m d = ap Ok size ∙ sym (cond-true _ _ _ fits) in
     let all : c.loop-signature.signature-index ≡ length cs = omega arith in

@@ -8,5 +8,5 @@ pub returns : goal.returns
 returns c =
     let t = c.args.self.now in
     let messages = c.args.messages.now in
-    let found = find_from_yields_List (from_leader t.roster t.leader c.args.node) _ _ c.find.result c.find.ensures.ran (YieldsList-from_slice messages c.iter.ensures.rest) (λ x b q k. search (rules, tests)) in
+    let found = find_from_yields_List (from_leader t c.args.node) _ _ c.find.result c.find.ensures.ran (YieldsList-from_slice messages c.iter.ensures.rest) (λ x b q k. search (rules, tests)) in
     search rules

@@ -3,7 +3,7 @@ use Rattle.std.proofs.lemmas.List.{take_rest, length-drop, length-take}
 use Rattle.wire.specs.Kinds.{kind_number}
 use Rattle.wire.specs.Format.{message, comment}
 use Rattle.wire.specs.Reading.{content, record_at, record_length, record_kind, record_body}
-use Rattle.wire.proofs.RecordLaws.{begins, record_none, record_bad_length, record_message, record_comment, record_bad_kind}
+use Rattle.wire.proofs.RecordLaws.{header_in_pairs, record_none, record_bad_length, record_message, record_comment, record_bad_kind}
 use Rattle.wire.proofs.records.Records.next.Goals as goal
 use Rattle.wire.proofs.records.Records.next.Goals.{After-from-length, After-from_le_bytes-2, in-Message, in-Comment}
 
@@ -15,10 +15,10 @@ cut : (c : After-from-length) → left c ≡ drop c.args.self.now.offset c.args.
 cut c = take_rest c.args.self.now.file.now c.args.self.now.offset
 
 told_length : (c : After-from-length) → c.from-length.result ≡ record_length (left c)
-told_length c = c.from-length.ensures ∙ c.from_le_bytes.ensures ∙ (begins _ (left c) c.as_chunks.ensures.front (omega arith)).length
+told_length c = c.from-length.ensures ∙ c.from_le_bytes.ensures ∙ (header_in_pairs _ (left c) c.as_chunks.ensures.front (omega arith)).length
 
 told_kind : (c : After-from_le_bytes-2) → c.from_le_bytes-2.result ≡ record_kind (left (goal.at.After-from_le_bytes-2 c).After-from-length)
-told_kind c = c.from_le_bytes-2.ensures ∙ (begins _ (left (goal.at.After-from_le_bytes-2 c).After-from-length) c.as_chunks.ensures.front (omega arith)).kind
+told_kind c = c.from_le_bytes-2.ensures ∙ (header_in_pairs _ (left (goal.at.After-from_le_bytes-2 c).After-from-length) c.as_chunks.ensures.front (omega arith)).kind
 
 pub returns-then-offset-file-clause-answer : goal.returns-then-offset-file-clause-answer
 returns-then-offset-file-clause-answer c = record_none _ _ (simp length-drop (omega arith))
