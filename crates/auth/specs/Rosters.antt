@@ -1,5 +1,6 @@
 -- Who takes part in a broadcast, and which rosters are made.
-use Rattle.std.specs.Prelude.{ℕ, ◌≤◌, Bool, false, not, ◌&&◌, nat_lt, List, Ok, Err, Result, nat_le, slice_index_or, if◌then◌else◌}
+use Rattle.std.specs.Prelude.{ℕ, Bool, false, not, ◌&&◌, nat_lt, List, Ok, Err, Result, nat_le, slice_index_or, if◌then◌else◌}
+use Rattle.refusals.specs.Numbers.{InRange}
 use Rattle.std.specs.List.{list_all}
 use Rattle.std.specs.Result.{result_map_both}
 use Rattle.std.proofs.Common.{lit≤}
@@ -27,7 +28,7 @@ abbrev pub fault_number : RosterFault → ℕ
 fault_number OutOfBounds = 6
 
 -- it is among 1 to 15
-pub roster_number : (fault : RosterFault) → (1 ≤ fault_number fault) × (fault_number fault ≤ 15)
+pub roster_number : (fault : RosterFault) → InRange (fault_number fault)
 roster_number OutOfBounds = (lit≤ tt, lit≤ tt)
 
 -- an answer as it is told: the roster's parts, or the refusal's number

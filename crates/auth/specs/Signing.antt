@@ -1,5 +1,6 @@
 -- Signing: what the nodes have signed in a turn, what a further request adds, which tags are valid, and which of them are forged.
-use Rattle.std.specs.Prelude.{◌≡◌, ℕ, ◌≤◌, Bool, true, false, not, ◌&&◌, ◌||◌, List, [], ◌∷◌, ◌++◌, length, Ok, Err, Result, nat_lt, slice_index_or, slice_set, if◌then◌else◌}
+use Rattle.std.specs.Prelude.{◌≡◌, ℕ, Bool, true, false, not, ◌&&◌, ◌||◌, List, [], ◌∷◌, ◌++◌, length, Ok, Err, Result, nat_lt, slice_index_or, slice_set, if◌then◌else◌}
+use Rattle.refusals.specs.Numbers.{InRange}
 use Rattle.std.specs.Result.{result_map_both}
 use Rattle.std.proofs.Common.{lit≤}
 use Rattle.auth.specs.declared.fault.SignFault.{SignFault}
@@ -38,7 +39,7 @@ abbrev pub sign_fault_number : SignFault → ℕ
 sign_fault_number NotAllowed = 13
 
 -- it is among 1 to 15
-pub signing_number : (fault : SignFault) → (1 ≤ sign_fault_number fault) × (sign_fault_number fault ≤ 15)
+pub signing_number : (fault : SignFault) → InRange (sign_fault_number fault)
 signing_number NotAllowed = (lit≤ tt, lit≤ tt)
 
 -- an answer as it is told, but for the tag: the value is signed, or the refusal's number

@@ -4,6 +4,7 @@ ghost use Rattle.auth.specs.Signing.{Rule, Lasting, signed_by, none_signed, afte
 use crate::fault::SignFault;
 
 /// Signs values for the nodes and verifies signatures. Within a turn a node signs at most two values.
+/// Node and value are handed in one by one: what a tag is for has the turn too, which the authenticator alone knows.
 pub trait Authenticator {
     // the turn in hand
     ghost turn: { Self → ℕ };

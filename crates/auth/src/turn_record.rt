@@ -3,7 +3,8 @@ ghost use Rattle.std.specs.Prelude.{◌≡◌, ◌<◌, length};
 use crate::roster::MAX_NODES;
 
 // What one node has signed in a turn.
-// The type has no invariant. Contracts do not see that an `ArrayVec<u64, 2>` holds at most two: each list of a record would need one.
+// Not the kit's `ArrayVec<u64, 2>`, which was tried: contracts see no bound on its items, and with an invariant for each list the goals of
+// `new` and `sign` stayed open.
 #[derive(Clone, Copy)]
 pub(crate) enum SignedValues {
     Nothing,

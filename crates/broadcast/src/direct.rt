@@ -34,6 +34,7 @@ impl Broadcast for DirectBroadcast {
     ghost validity = { λ _ i led _. DirectFacts.valid i led };
 
     fn broadcast(&mut self, turn: &Turn, messages: &[Message]) -> [u64; MAX_NODES] {
+        // A cast of at most 15: `try_from` would only add a fault that cannot happen.
         array::from_fn(|node| turn.direct_outcome(node as u8, messages))
     }
 }

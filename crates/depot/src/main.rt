@@ -5,7 +5,7 @@ use depot_turn::respond;
 use std::io::Read;
 use wire::MAX_FILE;
 
-// One byte more than a file may have, so that a larger one is seen to be too large.
+// One byte more than a file may have, so that a larger one is seen to be too large. A cast, since there is no `From<usize>` for u64.
 const KEPT: u64 = MAX_FILE as u64 + 1;
 
 fn main(rt: HostRuntime) -> anyhow::Result<()> {

@@ -2,7 +2,7 @@ use depot_turn::respond;
 use std::process::Abort;
 use std::test::Fail;
 
-// One message of 25 bytes with one signature by node 0: who sends which value to whom, in which round.
+// One message of 25 bytes with one signature by node 0: who sends which value to whom, in which round. By hand, and not by the writer.
 fn message(round: u8, sender: u8, receiver: u8, value: u8) -> [u8; 25] {
     let mut file = [0; 25];
     file[0] = 25;

@@ -16,7 +16,7 @@ fn state_name(roster: &Roster, node: u8) -> &'static str
     }
 }
 
-/// A heading, and then a line for each node.
+/// A heading, and then a line for each node. The contract speaks of the text where memory does not fail, and says so by `IfOk` in sight.
 pub fn outcomes_text(
     heap: Global,
     roster: &Roster,

@@ -1,7 +1,8 @@
 //! What all refusals have in common: a number.
 #![tactic(auto)]
 
-ghost use Rattle.std.specs.Prelude.{◌≡◌, ℕ, ◌≤◌};
+ghost use Rattle.std.specs.Prelude.{◌≡◌, ℕ};
+ghost use Rattle.refusals.specs.Numbers.{InRange};
 
 /// A reason for which something was refused. Its number is what is told of it outside the program.
 pub trait Numbered {
@@ -11,5 +12,5 @@ pub trait Numbered {
         ensures { result ≡ number self.now };
 
     // the numbers are 1 to 15
-    ghost in_range: { (reason : Self) → (1 ≤ number reason) × (number reason ≤ 15) };
+    ghost in_range: { (reason : Self) → InRange (number reason) };
 }

@@ -1,6 +1,7 @@
 -- What each fault says: its number, the offset of the record at fault, and the layer that found it.
 -- A fault that was found below says what it said there.
-use Rattle.std.specs.Prelude.{ℕ, ◌≤◌}
+use Rattle.std.specs.Prelude.{ℕ}
+use Rattle.refusals.specs.Numbers.{InRange}
 use Rattle.std.proofs.Common.{arith}
 use Rattle.wire.specs.declared.fault.Layer.{Layer}
 use Rattle.wire.specs.declared.fault.Layer.TheVariants as ALayer
@@ -28,14 +29,14 @@ file_refusal (AtFile.Message fault) = message_refusal fault
 file_refusal (AtFile.Capacity offset) = refused 4 offset ALayer.File
 
 -- the numbers are 1 to 15
-pub record_number : (fault : RecordFault) → (1 ≤ (record_refusal fault).number) × ((record_refusal fault).number ≤ 15)
+pub record_number : (fault : RecordFault) → InRange (record_refusal fault).number
 record_number (AtRecord.Length offset) = (omega arith, omega arith)
 record_number (AtRecord.Kind offset) = (omega arith, omega arith)
 
-pub message_number : (fault : MessageFault) → (1 ≤ (message_refusal fault).number) × ((message_refusal fault).number ≤ 15)
+pub message_number : (fault : MessageFault) → InRange (message_refusal fault).number
 message_number (AtMessage.Record fault) = record_number fault
 message_number (AtMessage.Length offset) = (omega arith, omega arith)
 
-pub file_number : (fault : FileFault) → (1 ≤ (file_refusal fault).number) × ((file_refusal fault).number ≤ 15)
+pub file_number : (fault : FileFault) → InRange (file_refusal fault).number
 file_number (AtFile.Message fault) = message_number fault
 file_number (AtFile.Capacity offset) = (omega arith, omega arith)

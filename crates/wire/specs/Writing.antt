@@ -1,5 +1,6 @@
 -- How a message is written into a buffer.
-use Rattle.std.specs.Prelude.{ℕ, ◌≤◌, if◌then◌else◌, List, ◌++◌, length, drop, Ok, Err, Result, nat_le}
+use Rattle.std.specs.Prelude.{ℕ, if◌then◌else◌, List, ◌++◌, length, drop, Ok, Err, Result, nat_le}
+use Rattle.refusals.specs.Numbers.{InRange}
 use Rattle.std.specs.Result.{result_map_both}
 use Rattle.std.proofs.Common.{arith}
 use Rattle.wire.specs.declared.message.Message.{Message}
@@ -14,7 +15,7 @@ pub record Shortage : Type 0 where
 abbrev pub shortage : ShortBuffer → Shortage
 shortage s = record { number = 5; needed = s.needed }
 
-pub shortage_number : (s : ShortBuffer) → (1 ≤ (shortage s).number) × ((shortage s).number ≤ 15)
+pub shortage_number : (s : ShortBuffer) → InRange (shortage s).number
 shortage_number s = (omega arith, omega arith)
 
 abbrev pub write_answer : Result ℕ ShortBuffer → Result ℕ Shortage

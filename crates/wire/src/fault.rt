@@ -11,7 +11,7 @@ pub enum Layer {
 }
 
 /// A fault as it is told: its number, the offset of the record at fault, and the layer that found it.
-/// The number is no enum: the causes are the variants of the faults below, which it would say twice.
+/// Number and layer are what is told: an enum of causes would say twice what the variants of the faults below say.
 #[derive(Clone, Copy, PartialEq, Eq, Debug)]
 pub struct Refusal {
     pub number: u8,

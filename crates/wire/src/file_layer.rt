@@ -47,7 +47,7 @@ fn fill(file: &[u8], table: &mut [Message]) -> Result<(), FileFault>
 
 /// Reads the messages of a file into the table's first places, and answers how many there are.
 /// The whole file is looked at before the first write, so a refusal leaves the table as it was.
-/// The table is the caller's, since memory is fixed.
+/// The table is the caller's, of any length: nothing is on a heap, and places past the last message stay as they were.
 pub fn read_messages(file: &[u8], table: &mut [Message]) -> Result<usize, FileFault>
     ensures answer { file_answer result ≡ counted 0 (reading file.now (length table.old)) }
     ensures table { table.new ≡ filled table.old (reading file.now (length table.old)) }

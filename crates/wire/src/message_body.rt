@@ -24,7 +24,7 @@ impl<'a> MessageBody<'a> {
         Some(MessageBody { bytes })
     }
 
-    // The message that the body writes. A public impl of From would serve a private need.
+    // The message that the body writes. A method and no From: the type is private, and the call would be no plainer.
     pub(crate) fn message(self) -> Message
         ensures { result ≡ message_from self.entry.bytes.now }
     {

@@ -59,6 +59,7 @@ impl fmt::Display for Refusal {
     }
 }
 
+// In a match, and not at the variants: an enum of which a variant has an offset cannot be cast.
 impl Numbered for RecordFault {
     ghost number = { λ fault. (record_refusal fault).number };
 

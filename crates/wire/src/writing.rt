@@ -53,6 +53,7 @@ pub fn write_message(message: &Message, buffer: &mut [u8]) -> Result<usize, Shor
         return Err(ShortBuffer { needed: length });
     }
     let mut writer = Writer { buffer, written: 0 };
+    // Casts of at most 160 and 16: `try_from` would only add a fault that cannot happen.
     writer.put(&(length as u16).to_le_bytes());
     writer.put(&(Kind::Message as u16).to_le_bytes());
     writer.put(&[

@@ -64,7 +64,7 @@ pub(crate) fn reads(rt: &impl Abort, file: &[u8], table: &mut [Message], count: 
     assert_eq!(rt; read_messages(file, table), Ok(count));
 }
 
-// The table is to be as it was.
+// The table is to be as it was. A `Refusal` built at each call would be longer than its three parts.
 pub(crate) fn refuses(
     rt: &impl Abort,
     file: &[u8],
@@ -84,7 +84,7 @@ pub(crate) fn refuses(
     unchanged(rt, table);
 }
 
-// Makes a row of messages with no signatures of a file of zeros; their rounds count them.
+// Makes a row of messages with no signatures of a file of zeros; their rounds count them. By hand, since the writer is tested too.
 pub(crate) fn put_messages(file: &mut [u8]) {
     for (i, record) in file.chunks_exact_mut(16).enumerate() {
         record[0] = 16;
