@@ -16,6 +16,7 @@ pub type IdealAuthenticator = Recording<IdealScheme>;
 /// Every tag is 0, and the record decides which are valid, but for the faulty nodes: their firms have the keys and may sign anything at any time.
 #[derive(Drop)]
 pub struct IdealScheme {
+    // an array, as MAX_NODES says: a flag for each place
     faulty: [bool; MAX_NODES],
 }
 

@@ -13,6 +13,7 @@ pub type MacAuthenticator = Recording<MacScheme>;
 /// A secret key for each of the nodes 0 to 15.
 #[derive(Drop)]
 pub struct MacScheme {
+    // an array, as MAX_NODES says: a key for each place
     keys: [Key; MAX_NODES],
 }
 

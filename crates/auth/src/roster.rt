@@ -10,6 +10,7 @@ pub const MAX_NODES: usize = 16;
 pub struct Roster {
     pub(crate) nodes: u8,
     pub(crate) bound: u8,
+    // an array, as MAX_NODES says: a flag for each place
     pub(crate) faulty: [bool; MAX_NODES],
     // 1 to 16 nodes, a bound below their number, a flag for each of sixteen places, and none set where no node is
     ghost inhabited: { 1 ≤ nodes },

@@ -17,6 +17,7 @@ pub(crate) enum SignedValues {
 #[derive(Drop)]
 pub(crate) struct TurnRecord {
     pub(crate) turn: u8,
+    // an array, as MAX_NODES says: what is signed at each place
     pub(crate) each: [SignedValues; MAX_NODES],
     ghost eight_bits: { turn < 256 },
     ghost placed: { length each ≡ 16 },

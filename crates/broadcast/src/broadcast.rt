@@ -18,6 +18,7 @@ pub trait Broadcast {
     // what the instance may leave of the state
     ghost leaves: { Self → Instance → Self → Type 0 };
 
+    // The outcomes are an array, as MAX_NODES says: one for each place.
     fn broadcast(&mut self, turn: &Turn, messages: &[Message]) -> [u64; MAX_NODES]
         ensures answer { result ≡ outcomes self.old (given turn.now messages.now) }
         ensures after { leaves self.old (given turn.now messages.now) self.new };
