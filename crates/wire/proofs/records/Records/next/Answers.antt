@@ -1,4 +1,4 @@
-use Rattle.std.proofs.Common.{◌≡◌, ℕ, ◌+◌, ◌-◌, List, length, take, drop, Some, Ok, sym, ap, ◌∙◌, inl, inr, ⊎_elim, arith}
+use Rattle.std.proofs.Common.{◌≡◌, ℕ, ◌-◌, List, length, take, drop, Some, Ok, sym, ap, ◌∙◌, inl, inr, ⊎_elim, arith}
 use Rattle.std.proofs.lemmas.List.{take_rest, length-drop, length-take}
 use Rattle.wire.specs.Kinds.{kind_number}
 use Rattle.wire.specs.Format.{message, comment}
@@ -56,8 +56,3 @@ returns-clause-answer c =
       | in-Message w ↦ ap (λ item. Ok (Some (content (λ b. b.now) item))) w.record-is ∙ ap (λ b. Ok (Some (message b))) body ∙ record_message offset (left a) (omega arith) (omega arith) (omega arith) (kind ∙ ap kind_number w.in-Message.is)
       | in-Comment w ↦ ap (λ item. Ok (Some (content (λ b. b.now) item))) w.record-is ∙ ap (λ b. Ok (Some (comment b))) body ∙ record_comment offset (left a) (omega arith) (omega arith) (omega arith) (kind ∙ ap kind_number w.in-Comment.is)
     ] ∙ ap (record_at offset) (cut a)
-
-pub returns-clause-moves_on : goal.returns-clause-moves_on
-returns-clause-moves_on c =
-    let a = (goal.at.returns-clause-moves_on c).After-from-length in
-    ap (λ n. c.args.self.now.offset + n) (told_length a ∙ ap record_length (cut a))
