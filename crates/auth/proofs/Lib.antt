@@ -1,3 +1,4 @@
 pub mod ListedFlags
 pub mod MadeTables
 pub mod RequestFacts
+pub mod SameRosters

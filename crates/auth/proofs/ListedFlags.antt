@@ -1,9 +1,9 @@
 -- Flags that are set for one listed node after the other.
-use Rattle.std.proofs.Common.{◌≡◌, ℕ, ◌+◌, ◌<◌, ◌≤◌, true, false, List, [], ◌∷◌, length, take, nat_lt, slice_index_or, slice_set, refl, ◌∙◌, ◌==◌, arith}
+use Rattle.std.proofs.Common.{◌≡◌, ℕ, ◌+◌, ◌<◌, true, false, List, length, take, nat_lt, slice_index_or, slice_set, ◌∙◌, ◌==◌, arith}
 use Rattle.std.specs.List.{list_all}
 use Rattle.std.proofs.lemmas.Grind.{common_steps}
 use Rattle.std.proofs.lemmas.List.{length-set}
-use Rattle.std.proofs.lemmas.List.Folds.{list_any_more}
+use Rattle.std.proofs.lemmas.List.Folds.{list_all_more, list_any_more}
 use Rattle.std.proofs.lemmas.Bool.{cases_eq}
 use Rattle.std.proofs.lemmas.Bool.Decides.{nat_tests}
 use Rattle.auth.specs.Lists.{has}
@@ -21,7 +21,6 @@ flag_more listed i d lt =
     let more = list_any_more (λ y. y == k) listed i d lt in
     grind (arith, nat_tests, common_steps, before, more, long, cases_eq k node))
 
--- what is below the nodes has a place
-pub below_places : (nodes : ℕ) (listed : List ℕ) → nodes ≤ 16 → list_all (λ i. nat_lt i nodes) listed ≡ true → list_all (λ i. nat_lt i 16) listed ≡ true
-below_places nodes [] few h = refl
-below_places nodes (i ∷ listed) few h = let rest = below_places nodes listed few in grind (arith, nat_tests, rest)
+-- a further node that is below the nodes
+pub below_more : (nodes : ℕ) (listed : List ℕ) (i : ℕ) → i < length listed → slice_index_or listed i 0 < nodes → list_all (λ node. nat_lt node nodes) (take i listed) ≡ true → list_all (λ node. nat_lt node nodes) (take (i + 1) listed) ≡ true
+below_more nodes listed i lt low before = let more = list_all_more (λ node. nat_lt node nodes) listed i 0 lt in grind (arith, nat_tests, before, more)

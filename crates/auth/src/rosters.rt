@@ -1,44 +1,30 @@
-ghost use Rattle.std.specs.Prelude.{◌≡◌, true, nat_lt};
-ghost use Rattle.std.specs.List.{list_all};
+ghost use Rattle.std.specs.Prelude.{◌≡◌};
 ghost use Rattle.auth.specs.Rosters.{honest, faulty_node, roster_answer, roster_from, fault_number, roster_number};
-ghost use Rattle.auth.specs.Lists.{has};
-ghost use Rattle.auth.specs.Tables.{table};
 
 use crate::roster::{MAX_NODES, Roster, RosterFault};
 use refusals::Numbered;
 
-// Whether all that are listed are among so many nodes.
-fn all_below(nodes: u8, listed: &[u8]) -> bool
-    ensures { result ≡ list_all (λ node. nat_lt node nodes) listed.now }
-{
-    listed.iter().all(|node| *node < nodes)
-}
-
-// Which of the sixteen places are listed.
-#[tactic(auto, using(crate::proofs::ListedFlags::flag_more), unfolding(crate::specs::Tables::table))]
-fn flags(listed: &[u8]) -> [bool; MAX_NODES]
-    requires { list_all (λ node. nat_lt node 16) listed.now ≡ true }
-    ensures { result ≡ table (has listed.now) }
-{
-    let mut flags = [false; MAX_NODES];
-    for &node in listed {
-        flags[usize::from(node)] = true;
-    }
-    flags
-}
-
 impl Roster {
     /// A roster of which the listed nodes are faulty, in any order and as often as they may be listed.
+    #[tactic(auto, unfolding(crate::specs::Tables::table))]
     pub fn new(nodes: u8, bound: u8, faulty: &[u8]) -> Result<Roster, RosterFault>
         ensures answer { roster_answer result ≡ roster_from nodes bound faulty.now }
     {
-        if usize::from(nodes) > MAX_NODES || bound >= nodes || !all_below(nodes, faulty) {
+        if usize::from(nodes) > MAX_NODES || bound >= nodes {
             return Err(RosterFault::OutOfBounds);
+        }
+        // One walk over the list, which may be long.
+        let mut flags = [false; MAX_NODES];
+        for &node in faulty {
+            if node >= nodes {
+                return Err(RosterFault::OutOfBounds);
+            }
+            flags[usize::from(node)] = true;
         }
         Ok(Roster {
             nodes,
             bound,
-            faulty: flags(faulty),
+            faulty: flags,
         })
     }
 

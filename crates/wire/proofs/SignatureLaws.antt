@@ -1,11 +1,9 @@
 -- The signatures of a body, one by one.
-use Rattle.std.proofs.Common.{◌≡◌, ℕ, zero, suc, ◌-◌, ◌≤◌, min, List, [], ◌∷◌, ◌++◌, length, get_or, take, drop, map, replicate, sym, refl, ap, ◌∙◌, arith}
-use Rattle.std.specs.Array.{IsFromFnResult}
+use Rattle.std.proofs.Common.{◌≡◌, ℕ, zero, suc, ◌+◌, ◌-◌, ◌<◌, ◌≤◌, min, List, [], ◌∷◌, ◌++◌, length, get_or, take, drop, set, map, replicate, sym, refl, ap, ◌∙◌, add-one, zero-add, arith}
 use Rattle.std.specs.Simd.{first_chunks}
-use Rattle.std.proofs.lemmas.List.{ext_get_or, length-append, length-replicate, take-take, take_at}
-use denote.Param.Members.{Mut, Called}
+use Rattle.std.proofs.lemmas.List.{drop_more, drop-replicate, take-take, take_at}
+use Rattle.std.proofs.lemmas.List.Edits.{sets, sets-eq}
 use Rattle.little_endian.specs.Bytes.{number}
-use Rattle.little_endian.proofs.ArrayLaws.{made_from}
 use Rattle.wire.specs.declared.message.Signature.{Signature}
 use Rattle.wire.specs.Format.{chain}
 use Rattle.wire.specs.Reading.{blank, signature_from, signatures_from, message_from}
@@ -31,22 +29,15 @@ pub signatures_of_chunks : (k : ℕ) (bytes : List ℕ) → signatures_from k by
 signatures_of_chunks zero bytes = refl
 signatures_of_chunks (suc k) bytes = λ i. signature_of_nine bytes i ∷ signatures_of_chunks k (drop 9 bytes) i
 
-blanks : (n i : ℕ) → get_or (replicate n blank) i blank ≡ blank
-blanks zero i = refl
-blanks (suc n) zero = refl
-blanks (suc n) (suc i) = blanks n i
+-- a signature put at a place, and then those of the later chunks
+pub signatures_on : (ss : List Signature) (chunks : List (List ℕ)) (i : ℕ) (s : Signature) → i < length chunks → s ≡ signature_from (get_or chunks i []) → sets (set ss i s) (i + 1) (map signature_from (drop (i + 1) chunks)) ≡ sets ss i (map signature_from (drop i chunks))
+signatures_on ss chunks i s lt is =
+    ap (λ s. sets (set ss i s) (i + 1) (map signature_from (drop (i + 1) chunks))) is
+    ∙ sym (ap (λ cs. sets ss i (map signature_from cs)) (drop_more chunks i [] lt) ∙ ap (λ k. sets (set ss i (signature_from (get_or chunks i []))) k (map signature_from (drop (i + 1) chunks))) (sym (add-one i)))
 
--- past the end there is a blank, whether it stands there or not
-padded : (ss : List Signature) (n i : ℕ) → get_or (ss ++ replicate n blank) i blank ≡ get_or ss i blank
-padded [] n i = blanks n i
-padded (s ∷ ss) n zero = refl
-padded (s ∷ ss) n (suc i) = padded ss n i
-
--- the signatures that are made from chunks, one at each place, are those of the bytes, and blanks after them
-module _ {F : Type 0} (g : Mut F (ℕ × Unit {0}) Signature) (Keeps : F → Type 0) (f : F) (made : List Signature) (k : ℕ) (bytes : List ℕ) where
-  pub signatures_made : k ≤ 16 → Keeps f → IsFromFnResult g f made 16 → ((f : F) (i : ℕ) (y : Signature) (q : F) → Keeps f → Called g f (i, tt) y q → (y ≡ get_or (map signature_from (first_chunks 9 k bytes)) i blank) × Keeps q) → made ≡ signatures_from k bytes ++ replicate (16 - k) blank
-  signatures_made few h r each =
-      let size : 16 ≡ length (signatures_from k bytes ++ replicate (16 - k) blank) = simp (length-append, length-replicate) (omega (arith, length-signatures k bytes)) in
-      ext_get_or blank made _ (r.long ∙ size) (λ i lt.
-      made_from g Keeps _ each 16 0 i f made blank h r.each (omega arith) (omega (arith, r.long))
-      ∙ ap (λ ss. get_or ss i blank) (sym (signatures_of_chunks k bytes)) ∙ sym (padded (signatures_from k bytes) (16 - k) i))
+-- the signatures of all chunks over blanks
+pub signatures_over : (k : ℕ) (bytes : List ℕ) → k ≤ 16 → sets (replicate 16 blank) 0 (map signature_from (first_chunks 9 k bytes)) ≡ signatures_from k bytes ++ replicate (16 - k) blank
+signatures_over k bytes few =
+    let ss = signatures_from k bytes in
+    ap (sets (replicate 16 blank) 0) (sym (signatures_of_chunks k bytes)) ∙ sets-eq ss (replicate 16 blank) 0 (omega (arith, length-signatures k bytes))
+    ∙ ap (λ n. ss ++ drop n (replicate 16 blank)) (zero-add (length ss) ∙ length-signatures k bytes) ∙ ap (λ bs. ss ++ bs) (drop-replicate k 16 blank)
