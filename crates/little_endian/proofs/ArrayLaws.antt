@@ -1,4 +1,4 @@
--- Arrays that are made by a call at each place. They stand in the lowest crate, since those above share them.
+-- Arrays that are made by a call at each place. They stand in the lowest crate, so that each crate above can use them.
 use Rattle.std.proofs.Common.{◌≡◌, ℕ, zero, suc, ◌+◌, ◌<◌, ◌≤◌, List, get_or, ◌∙◌, subst, ⊎_elim, arith}
 use Rattle.std.specs.Array.{IsFromFnResultFrom}
 use Rattle.std.proofs.lemmas.Bool.{cases_eq}

@@ -1,4 +1,4 @@
-use Rattle.std.proofs.Common.{◌≡◌, true, nat_lt, set, take, subst, ap, ◌∙◌}
+use Rattle.std.proofs.Common.{◌≡◌, true, nat_lt, set, take, subst, ap, ◌∙◌, arith}
 use Rattle.std.specs.List.{list_all}
 use Rattle.std.proofs.lemmas.List.{take_all}
 use Rattle.auth.specs.Lists.{has}
@@ -12,7 +12,7 @@ loop-node-preserved c =
     let listed = c.args.faulty.now in
     let i = c.loop-node.node-index in
     let lt = c.loop-node-test.true in (
-      below_more c.args.nodes listed i lt c.if-node-nodes.false c.loop-node.invariant.0,
+      below_more c.args.nodes listed i lt (omega (arith, c.if-node-nodes.false)) c.loop-node.invariant.0,
       ap (λ flags. set flags c.from-in-loop-node.result true) c.loop-node.invariant.1 ∙ ap (λ node. set (table (has (take i listed))) node true) c.from-in-loop-node.ensures ∙ flag_more listed i 0 lt,
     )
 
